@@ -1,0 +1,14 @@
+// What a guest may do.
+use crate::numbers::VAddr;
+use crate::piece::Piece;
+
+/// A command of a guest's program.
+#[derive(Clone, Copy, Debug, PartialEq, Eq)]
+pub enum Command {
+    /// Writes the bytes at the address.
+    W { addr: VAddr, bytes: Piece },
+    /// Reads this many bytes, 1 to 64, at the address.
+    R { addr: VAddr, len: u8 },
+    /// Ends the domain.
+    Exit,
+}
