@@ -2,6 +2,15 @@
 use crate::numbers::VAddr;
 use crate::piece::Piece;
 
+/// How a page is mapped.
+#[derive(Clone, Copy, Debug, PartialEq, Eq)]
+pub enum Mode {
+    /// Read-only.
+    Ro,
+    /// Read and written.
+    Rw,
+}
+
 /// A command of a guest's program.
 #[derive(Clone, Copy, Debug, PartialEq, Eq)]
 pub enum Command {

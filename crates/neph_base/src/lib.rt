@@ -8,7 +8,7 @@ mod numbers;
 mod piece;
 mod reply;
 
-pub use command::Command;
+pub use command::{Command, Mode};
 pub use lists::Name;
 pub use memory::NoMemory;
 pub use numbers::{DomId, FrameNo, GrantRef, Handle, Pfn, Port, VAddr, Vpn};

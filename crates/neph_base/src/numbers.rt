@@ -152,6 +152,27 @@ impl VAddr {
     }
 }
 
+impl VAddr {
+    ghost use Rattle.std.specs.Prelude.{◌/◌, ◌%◌};
+
+    /// The virtual page that it lies in.
+    pub fn vpn(self) -> Vpn
+        ensures { result ≡ self / 4096 }
+    {
+        Vpn {
+            number: self.number / 4096,
+        }
+    }
+
+    /// Its offset in that page, in bytes.
+    pub fn offset(self) -> usize
+        ensures value { result ≡ self % 4096 }
+        ensures range { result < 4096 }
+    {
+        (self.number % 4096) as usize
+    }
+}
+
 /// The number of a frame of the machine, 0 to 16383 (Xen's machine frame number). A frame has 4096 bytes.
 #[derive(Clone, Copy, Debug, PartialEq, Eq, PartialOrd, Ord)]
 pub struct FrameNo {

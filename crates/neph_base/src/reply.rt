@@ -31,6 +31,8 @@ pub enum Refusal {
     Unmapped,
     /// The page is mapped read-only.
     ReadOnly,
+    /// No frame is free for the copy that the write needs.
+    NoFrame,
 }
 
 /// What an entry was answered.

@@ -1,0 +1,5 @@
+use Rattle.neph_flat.proofs.Starts.{sound_start}
+use Rattle.neph_flat.proofs.plain.Plain.start.Goals as goal
+
+pub invariant_of-result : goal.invariant_of-result
+invariant_of-result c = sound_start c.args.s.now _ _ c.requires c.in_ok-copy.ensures c.in_ok-start_domains.ensures

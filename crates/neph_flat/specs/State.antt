@@ -1,0 +1,7 @@
+use Rattle.neph_model.specs.declared.script.Script.{Script}
+use Rattle.neph_model.specs.Machine.{Machine}
+
+-- a script and the machine that runs it
+pub record State : Type 0 where
+  pub script : Script
+  pub machine : Machine

@@ -1,0 +1,32 @@
+-- What holds of each script that can be spelled.
+use Rattle.std.specs.Prelude.{ℕ, ◌+◌, ◌%◌, ◌<◌, ◌≤◌, length, ⊤, All}
+use Rattle.neph_base.specs.declared.command.Command.{Command}
+use Rattle.neph_base.specs.declared.command.Command.TheVariants.{W, R, Exit}
+use Rattle.neph_model.specs.declared.script.Script.{Script}
+use Rattle.neph_model.specs.declared.script.Program.{Program}
+use Rattle.neph_model.specs.declared.script.Start.{Start}
+
+-- no command reads or writes past the end of a page, and a read has 1 to 64 bytes
+abbrev pub FitsPage : Command → Type 0
+FitsPage (W addr bytes) = addr % 4096 + length bytes ≤ 4096
+FitsPage (R addr len) = (0 < len) × (len ≤ 64) × (addr % 4096 + len ≤ 4096)
+FitsPage Exit = ⊤
+
+-- a program of at most 512 commands that fit
+pub record IsLawfulProgram (p : Program) : Type 0 where
+  pub fit : All FitsPage p.commands
+  pub few : length p.commands ≤ 512
+
+-- a domain line with its pages and its limit in range, which names a program
+pub record IsLawfulStart (programs : ℕ) (t : Start) : Type 0 where
+  pub pages_low : 8 ≤ t.pages
+  pub pages_high : t.pages ≤ 1024
+  pub limit : t.limit ≤ 62
+  pub program : t.program < programs
+
+pub record IsLawful (s : Script) : Type 0 where
+  pub frames_low : 16 ≤ s.frames
+  pub frames_high : s.frames ≤ 16384
+  pub programs : All IsLawfulProgram s.programs
+  pub starts : All (IsLawfulStart (length s.programs)) s.starts
+  pub few : length s.starts ≤ 16

@@ -1,0 +1,10 @@
+pub mod Memory
+pub mod Machine
+pub mod Frames
+pub mod Step
+pub mod Turns
+pub mod Run
+pub mod Words
+pub mod Transcript
+pub mod Lawful
+pub mod Grammar

@@ -1,0 +1,159 @@
+-- What a call of the program does, by its answer.
+use Rattle.std.specs.Prelude.{◌≡◌, ◌⊎◌, ◌<◌, ◌≤◌, ℕ, true, false, List, [], Option, length, codes, IfSome}
+use Rattle.std.specs.Io.KnownBytes.{Appends, IsAtEnd}
+use Rattle.neph_io.specs.Causes.{Rose}
+use Rattle.neph_io.specs.Streams.{AppendsFront}
+use Rattle.neph_model.specs.declared.script.Script.{Script}
+use Rattle.neph_model.specs.Grammar.{Spells}
+use Rattle.neph_model.specs.Machine.{is_over}
+use Rattle.neph_model.specs.Run.{Ran, IsRun}
+use Rattle.neph_model.specs.Transcript.{transcript}
+use Rattle.neph_top.specs.declared.status.Status.{Status}
+use Rattle.neph_top.specs.declared.status.Status.TheVariants.{Ended, Unbuilt, TooLong, NoMemory, ReadFault, WriteFault}
+
+-- the text is the transcript of the script's run, and no domain is live at its end
+pub record Transcribes (s : Script) (text : List ℕ) : Type 0 where
+  pub ran : Ran
+  pub run : IsRun s ran
+  pub ended : ran.stalled ≡ false
+  pub over : is_over ran.last ≡ true
+  pub text_is : text ≡ transcript s ran
+
+-- the text is the transcript of the run of the script that the bytes spell
+pub record IsTranscript (bytes text : List ℕ) : Type 0 where
+  pub script : Script
+  pub spelled : Spells bytes script
+  pub transcribed : Transcribes script text
+
+-- no script is spelled
+abbrev pub IsUnbuilt : List ℕ → Type 0
+IsUnbuilt bytes = (s : Script) → Spells bytes s → ⊥
+
+-- the most bytes of a script
+abbrev pub limit : ℕ
+limit = 1048576
+
+abbrev pub unbuilt_text : List ℕ
+unbuilt_text = codes "script 0 unbuilt\n"
+
+abbrev pub too_long_text : List ℕ
+too_long_text = codes "too long\n"
+
+abbrev pub usage_text : List ℕ
+usage_text = codes "usage: nephele run or race N or gen SEED DOMAINS LINES\n"
+
+-- what is to be written for these bytes
+abbrev pub Answers : List ℕ → List ℕ → Type 0
+Answers bytes text =
+    ((length bytes ≤ limit) × IsTranscript bytes text) ⊎ ((length bytes ≤ limit) × IsUnbuilt bytes × (text ≡ unbuilt_text)) ⊎ ((limit < length bytes) × (text ≡ too_long_text))
+
+-- what a call saw: the bytes that its source had left before and after it, those that its sink had taken, and how often each had failed
+pub record Seen : Type 0 where
+  pub left : Option (List ℕ)
+  pub rest : Option (List ℕ)
+  pub old : Option (List ℕ)
+  pub new : Option (List ℕ)
+  pub read_before : ℕ
+  pub read_now : ℕ
+  pub write_before : ℕ
+  pub write_now : ℕ
+
+abbrev pub saw : Option (List ℕ) → Option (List ℕ) → Option (List ℕ) → Option (List ℕ) → ℕ → ℕ → ℕ → ℕ → Seen
+saw left rest old new read_before read_now write_before write_now =
+    record { left = left; rest = rest; old = old; new = new; read_before = read_before; read_now = read_now; write_before = write_before; write_now = write_now }
+
+-- neither the source nor the sink failed
+pub record NoFault (c : Seen) : Type 0 where
+  pub read : c.read_now ≡ c.read_before
+  pub write : c.write_now ≡ c.write_before
+
+-- nothing was written
+pub record WritesNothing (c : Seen) : Type 0 where
+  pub taken : Appends c.old c.new []
+  pub write : c.write_now ≡ c.write_before
+
+-- the source was read to its end, and the sink took the transcript of the run of the script that its bytes spell
+pub record WritesTranscript (c : Seen) : Type 0 where
+  pub text : IfSome c.left (λ bytes. (length bytes ≤ limit) × ((text : List ℕ) × IsTranscript bytes text × Appends c.old c.new text))
+  pub read : IsAtEnd c.rest
+  pub faults : NoFault c
+
+-- the source was read to its end, its bytes spell no script, and the sink took that answer
+pub record WritesUnbuilt (c : Seen) : Type 0 where
+  pub unbuilt : IfSome c.left (λ bytes. (length bytes ≤ limit) × IsUnbuilt bytes)
+  pub taken : Appends c.old c.new unbuilt_text
+  pub read : IsAtEnd c.rest
+  pub faults : NoFault c
+
+-- the source gave more bytes than a script may have, and the sink took that answer
+pub record WritesTooLong (c : Seen) : Type 0 where
+  pub long : IfSome c.left (λ bytes. limit < length bytes)
+  pub taken : Appends c.old c.new too_long_text
+  pub faults : NoFault c
+
+-- memory ran out before anything was written
+pub record LacksMemory (c : Seen) : Type 0 where
+  pub nothing : WritesNothing c
+  pub read : c.read_now ≡ c.read_before
+
+-- the source failed before anything was written
+pub record FailsToRead (c : Seen) : Type 0 where
+  pub nothing : WritesNothing c
+  pub rose : Rose c.read_before c.read_now
+
+-- the sink failed, and had taken some front of what was to be written
+pub record FailsToWrite (c : Seen) : Type 0 where
+  pub front : IfSome c.left (λ bytes. (text : List ℕ) × Answers bytes text × AppendsFront c.old c.new text)
+  pub read : c.read_now ≡ c.read_before
+  pub rose : Rose c.write_before c.write_now
+
+-- what a call that runs a script has done, by its status
+abbrev pub Called : Seen → Status → Type 0
+Called c Ended = WritesTranscript c
+Called c Unbuilt = WritesUnbuilt c
+Called c TooLong = WritesTooLong c
+Called c NoMemory = LacksMemory c
+Called c ReadFault = FailsToRead c
+Called c WriteFault = FailsToWrite c
+
+-- the number of a status
+abbrev pub number : Status → ℕ
+number Ended = 0
+number Unbuilt = 4
+number TooLong = 4
+number NoMemory = 5
+number ReadFault = 6
+number WriteFault = 7
+
+-- the number that a call that runs a script answers, and what it says
+pub record AnswersRun (c : Seen) (answer : ℕ) : Type 0 where
+  pub transcript : answer ≡ 0 → WritesTranscript c
+  pub refused : answer ≡ 4 → WritesUnbuilt c ⊎ WritesTooLong c
+  pub memory : answer ≡ 5 → LacksMemory c
+  pub read : answer ≡ 6 → FailsToRead c
+  pub write : answer ≡ 7 → FailsToWrite c
+  pub one : (answer ≡ 0) ⊎ (answer ≡ 4) ⊎ (answer ≡ 5) ⊎ (answer ≡ 6) ⊎ (answer ≡ 7)
+  -- where a script is spelled and neither count rose, its transcript is written, or memory ran out
+  pub complete : ¬ (Rose c.read_before c.read_now) → ¬ (Rose c.write_before c.write_now) → IfSome c.left (λ bytes. length bytes ≤ limit → (s : Script) → Spells bytes s → (answer ≡ 0) ⊎ (answer ≡ 5))
+  -- where none is spelled or the source gives too much, and neither count rose, that is written, or memory ran out
+  pub complete_refused : ¬ (Rose c.read_before c.read_now) → ¬ (Rose c.write_before c.write_now) → IfSome c.left (λ bytes. IsUnbuilt bytes ⊎ (limit < length bytes) → (answer ≡ 4) ⊎ (answer ≡ 5))
+
+-- the usage line was written, and nothing was read
+pub record WritesUsage (c : Seen) : Type 0 where
+  pub taken : Appends c.old c.new usage_text
+  pub faults : NoFault c
+
+-- the sink failed, and had taken some front of the usage line
+pub record FailsToTellUsage (c : Seen) : Type 0 where
+  pub front : AppendsFront c.old c.new usage_text
+  pub read : c.read_now ≡ c.read_before
+  pub rose : Rose c.write_before c.write_now
+
+-- the number that a call with words of no form answers
+abbrev pub AnswersUsage : Seen → ℕ → Type 0
+AnswersUsage c answer = (c.rest ≡ c.left) × (((answer ≡ 2) × WritesUsage c) ⊎ ((answer ≡ 7) × FailsToTellUsage c))
+
+-- all of a text was written, and the status is the one given; or some front of it, and the sink failed
+abbrev pub Tells : Option (List ℕ) → Option (List ℕ) → List ℕ → ℕ → ℕ → Status → Status → Type 0
+Tells old new text before now status answer =
+    ((answer ≡ status) × Appends old new text × (now ≡ before)) ⊎ ((answer ≡ WriteFault) × AppendsFront old new text × Rose before now)

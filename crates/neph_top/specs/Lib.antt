@@ -1,0 +1,4 @@
+pub mod Advances
+pub mod Ended
+pub mod Call
+pub mod Word
