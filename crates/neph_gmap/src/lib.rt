@@ -1,0 +1,11 @@
+//! A guest's pages: where each lies, and the virtual pages that map it.
+#![tactic(auto)]
+
+mod map;
+mod numbers;
+mod page;
+#[cfg(test)]
+mod tests;
+
+pub use map::GuestMap;
+pub use page::Page;

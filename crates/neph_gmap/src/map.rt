@@ -1,0 +1,96 @@
+// The map of a guest's pages.
+ghost use Rattle.std.specs.Prelude.{◌≡◌, ◌<◌, ℕ, [], IfOk, OnOk, OnErr, length, replicate, slice_get, slice_set};
+ghost use Rattle.neph_gmap.specs.GuestPages.{vpns_at, IsRising, with_number, without_number};
+
+use crate::numbers::{add_number, drop_number};
+use crate::page::Page;
+use neph_base::{NoMemory, Pfn, Vpn};
+use std::alloc::Global;
+use std::marker::Model;
+
+/// For each page of a guest its place, and the rising list of virtual pages that are mapped to it. Contracts
+/// see two lists by page number.
+#[derive(Drop)]
+pub struct GuestMap {
+    pages: Vec<Page>,
+    vpns: Vec<Vec<Vpn>>,
+}
+
+impl Model for GuestMap {
+    ghost use Rattle.std.specs.Prelude.{◌≡◌, ℕ, [], map, vec_len, slice_index_or};
+    ghost use Rattle.neph_gmap.specs.GuestPages.{GuestPages, IsRising};
+
+    ghost Value = { GuestPages };
+
+    ghost view = { λ m. record { pages = m.pages.items; vpns = map (λ v. v.items) m.vpns.items } };
+
+    ghost invariant = { λ m. (vec_len m.vpns ≡ vec_len m.pages)
+        × ((p : ℕ) → IsRising (slice_index_or (map (λ v. v.items) m.vpns.items) p [])) };
+}
+
+impl GuestMap {
+    /// So many pages, all exposed and mapped nowhere.
+    pub fn new(alloc: Global, pages: u16) -> Result<GuestMap, NoMemory>
+        ensures { IfOk result (λ m. m ≡ record { pages = replicate pages Page.Exposed; vpns = replicate pages [] }) }
+    {
+        let mut places = Vec::with_capacity(alloc, pages as usize)?;
+        let mut vpns = Vec::with_capacity(alloc, pages as usize)?;
+        for _p in 0..pages {
+            places.push(Page::Exposed)?;
+            vpns.push(Vec::new(alloc))?;
+        }
+        Ok(GuestMap {
+            pages: places,
+            vpns,
+        })
+    }
+
+    /// The place of a page, `None` exactly past the last page.
+    pub fn page(&self, p: Pfn) -> Option<Page>
+        ensures { result ≡ slice_get self.now.pages p }
+    {
+        self.pages.get(p.get() as usize).copied()
+    }
+
+    /// Puts a page elsewhere.
+    pub fn set(&mut self, p: Pfn, to: Page)
+        requires { p < length self.old.pages }
+        ensures { self.new ≡ record self.old { pages = slice_set self.old.pages p to } }
+    {
+        self.pages[p.get() as usize] = to;
+    }
+
+    /// The virtual pages that are mapped to a page, by rising number; none past the last page.
+    pub fn vpns(&self, p: Pfn) -> &[Vpn]
+        ensures vpns { result.now ≡ vpns_at self.now p }
+        ensures rising { IsRising result.now }
+    {
+        let place = p.get() as usize;
+        if place < self.vpns.len() {
+            &self.vpns[place]
+        } else {
+            &[]
+        }
+    }
+
+    /// Notes that a virtual page is mapped to a page. After `NoMemory` nothing has changed.
+    pub fn add_vpn(&mut self, p: Pfn, v: Vpn) -> Result<(), NoMemory>
+        requires { p < length self.old.pages }
+        ensures ok { OnOk result (self.new ≡ record self.old { vpns = slice_set self.old.vpns p (with_number v (vpns_at self.old p)) }) }
+        ensures err { OnErr result (self.new ≡ self.old) }
+    {
+        let list = &mut self.vpns[p.get() as usize];
+        add_number(list, v)
+    }
+
+    /// Notes that a virtual page is not mapped to a page.
+    pub fn drop_vpn(&mut self, p: Pfn, v: Vpn)
+        ensures { self.new ≡ record self.old { vpns = slice_set self.old.vpns p (without_number v (vpns_at self.old p)) } }
+    {
+        let place = p.get() as usize;
+        if place < self.vpns.len() {
+            let list = &mut self.vpns[place];
+            drop_number(list, v);
+        }
+    }
+}

@@ -1,0 +1,27 @@
+// Each call once.
+use crate::map::GuestMap;
+use crate::page::Page;
+use neph_base::{FrameNo, Pfn, Vpn};
+use std::test::Fail;
+
+#[test]
+fn pages_and_their_mappings(rt: HostRuntime) -> Result<(), Fail> {
+    let mut map = GuestMap::new(rt.alloc(), 8)?;
+    let p = Pfn::new(5).ok_or("pfn")?;
+    assert!(rt; p.get() < 8);
+    let past = Pfn::new(8).ok_or("pfn")?;
+    let f = FrameNo::new(77).ok_or("frame")?;
+    assert!(rt; map.page(past).is_none());
+    map.set(p, Page::Local(f));
+    assert!(rt; map.page(p) == Some(Page::Local(f)));
+    for n in [9, 3, 262143, 3] {
+        let v = Vpn::new(n).ok_or("vpn")?;
+        map.add_vpn(p, v)?;
+    }
+    assert_eq!(rt; map.vpns(p).len(), 3);
+    let v = Vpn::new(9).ok_or("vpn")?;
+    map.drop_vpn(p, v);
+    assert_eq!(rt; map.vpns(p).len(), 2);
+    assert_eq!(rt; map.vpns(past).len(), 0);
+    Ok(())
+}

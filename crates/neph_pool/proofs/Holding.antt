@@ -1,0 +1,116 @@
+-- How the owners of a frame read after a change.
+use Rattle.std.proofs.Common.{◌≡◌, ◌≢◌, ℕ, zero, suc, ◌+◌, ◌*◌, ◌<◌, ◌≤◌, length-set, Bool, true, false, List, [], ◌∷◌, length, set, get_or, replicate, sum, Some, None, refl, sym, ap, ◌∙◌, arith, ◌==◌, if◌then◌else◌, eq-eqb, ne_eqb}
+use Rattle.std.proofs.lemmas.List.{length-replicate, get_or-set_other, get_or-set_same}
+use Rattle.std.proofs.lemmas.List.Sums.{sum_by-set, sum_by-cons}
+use Rattle.std.proofs.lemmas.List.Folds.{sum_by-replicate}
+use Rattle.std.proofs.lemmas.Bool.{eqb-true}
+use Rattle.neph_pool.specs.declared.entry.Hold.TheVariants.{Sole, Counted}
+use Rattle.neph_pool.specs.declared.owners.Owners.{Owners}
+use Rattle.neph_pool.specs.declared.owners.Owners.TheVariants.{Spare, Alone, Many}
+use Rattle.neph_pool.specs.Entries.{weight_of}
+use Rattle.neph_pool.specs.Owners.{held_by, total_of, counted}
+
+abbrev zeros : ℕ → List ℕ
+zeros n = replicate n 0
+
+zero_at : (n k : ℕ) → get_or (zeros n) k 0 ≡ 0
+zero_at zero k = refl
+zero_at (suc n) zero = refl
+zero_at (suc n) (suc k) = zero_at n k
+
+-- weights of at most two have a small sum
+pub light_sum : (ws : List ℕ) → ((r : ℕ) → get_or ws r 0 ≤ 2) → sum ws ≤ 2 * length ws
+light_sum [] h = omega arith
+light_sum (w ∷ ws) h = omega (arith, sum_by-cons (λ (x : ℕ). x) w ws, h zero, light_sum ws (λ r. h (suc r)))
+
+pub light_set : (ws : List ℕ) (i v : ℕ) → ((r : ℕ) → get_or ws r 0 ≤ 2) → v ≤ 2 → (r : ℕ) → get_or (set ws i v) r 0 ≤ 2
+light_set [] i v h le r = omega arith
+light_set (w ∷ ws) zero v h le zero = le
+light_set (w ∷ ws) zero v h le (suc r) = h (suc r)
+light_set (w ∷ ws) (suc i) v h le zero = h zero
+light_set (w ∷ ws) (suc i) v h le (suc r) = light_set ws i v (λ k. h (suc k)) le r
+
+pub two_light : (row r : ℕ) → get_or (set (zeros 64) row 2) r 0 ≤ 2
+two_light row r = light_set (zeros 64) row 2 (λ k. let e : get_or (zeros 64) k 0 ≡ 0 = zero_at 64 k in omega arith) (omega arith) r
+
+sum_one : (n row v : ℕ) → row < n → sum (set (zeros n) row v) ≡ v
+sum_one n row v h =
+    let at : get_or (zeros n) row 0 ≡ 0 = zero_at n row in
+    let fit : row < length (zeros n) = rw (length-replicate n) h in
+    omega (arith, sum_by-set (λ (x : ℕ). x) (zeros n) row v 0 fit, sum_by-replicate (λ (x : ℕ). x) n 0)
+
+pub two_sum : (row : ℕ) → row < 64 → sum (set (zeros 64) row 2) ≡ 2
+two_sum row h = sum_one 64 row 2 h
+
+pub two_whole : (row : ℕ) → length (set (zeros 64) row 2) ≡ 64
+two_whole row = length-set (zeros 64) row 2 ∙ length-replicate {A = ℕ} 64 0
+
+-- a weight is put in place of another
+pub sum_put : (ws : List ℕ) (i v : ℕ) → i < length ws → sum (set ws i v) + get_or ws i 0 ≡ sum ws + v
+sum_put ws i v h = sum_by-set (λ (x : ℕ). x) ws i v 0 h
+
+pub within : (ws : List ℕ) (r : ℕ) → get_or ws r 0 ≤ sum ws
+within [] r = omega arith
+within (w ∷ ws) zero = omega (arith, sum_by-cons (λ (x : ℕ). x) w ws)
+within (w ∷ ws) (suc r) = omega (arith, sum_by-cons (λ (x : ℕ). x) w ws, within ws r)
+
+two_within : (ws : List ℕ) (q r : ℕ) → r ≢ q → get_or ws q 0 + get_or ws r 0 ≤ sum ws
+two_within [] q r n = omega arith
+two_within (w ∷ ws) zero zero n = absurd (n refl)
+two_within (w ∷ ws) zero (suc r) n = omega (arith, sum_by-cons (λ (x : ℕ). x) w ws, within ws r)
+two_within (w ∷ ws) (suc q) zero n = omega (arith, sum_by-cons (λ (x : ℕ). x) w ws, within ws q)
+two_within (w ∷ ws) (suc q) (suc r) n = omega (arith, sum_by-cons (λ (x : ℕ). x) w ws, two_within ws q r (λ e. n (ap suc e)))
+
+-- the row that has weight 1 of a frame that is alone is its own
+same_row : (b : Bool) (row q : ℕ) → (row == q) ≡ b → weight_of (if b then Some Sole else None) ≡ 1 → row ≡ q
+same_row true row q e h = eqb-true row q e
+same_row false row q e h = absurd (cc)
+
+pub alone_row : (row q : ℕ) → weight_of (held_by row (Alone q)) ≡ 1 → row ≡ q
+alone_row row q h = same_row (row == q) row q refl h
+
+pub none_else : (q r : ℕ) → r ≢ q → held_by r (Alone q) ≡ None
+none_else q r n = rw (ne_eqb r q n) refl
+
+pub counted_none : (n : ℕ) → n ≡ 0 → counted n ≡ None
+counted_none n h = rw (eq-eqb n 0 h) refl
+
+pub counted_some : (n : ℕ) → n ≢ 0 → counted n ≡ Some (Counted n)
+counted_some n h = rw (ne_eqb n 0 h) refl
+
+pub alone_own : (row : ℕ) (ws : List ℕ) → row < 64 → ws ≡ set (zeros 64) row 2 → counted (get_or ws row 0) ≡ Some (Counted 2)
+alone_own row ws h e =
+    let fit : row < length (zeros 64) = rw (length-replicate 64) h in
+    let at : get_or ws row 0 ≡ 2 = ap (λ (xs : List ℕ). get_or xs row 0) e ∙ get_or-set_same (zeros 64) row 2 0 fit in
+    ap counted at
+
+pub alone_others : (row q r : ℕ) (ws : List ℕ) → weight_of (held_by row (Alone q)) ≡ 1 → ws ≡ set (zeros 64) row 2 → r ≢ row → counted (get_or ws r 0) ≡ held_by r (Alone q)
+alone_others row q r ws h e n =
+    counted_none (get_or ws r 0) (ap (λ (xs : List ℕ). get_or xs r 0) e ∙ get_or-set_other (zeros 64) row r 2 0 n ∙ zero_at 64 r) ∙ sym (none_else q r (λ k. n (k ∙ sym (alone_row row q h))))
+
+weight_many : (b : Bool) (n : ℕ) → weight_of (if b then None else Some (Counted n)) ≡ 1 → n ≡ 1
+weight_many true n h = absurd (cc)
+weight_many false n h = h
+
+pub weight_counted : (n : ℕ) → weight_of (counted n) ≡ 1 → n ≡ 1
+weight_counted n h = weight_many (n == 0) n h
+
+-- the last weight is gone
+pub last_others : (o : Owners) (row r : ℕ) → total_of o ≡ 1 → weight_of (held_by row o) ≡ 1 → r ≢ row → held_by r (Spare row) ≡ held_by r o
+last_others (Spare q) row r t h n = absurd (omega arith)
+last_others (Alone q) row r t h n = rw (ne_eqb r row n) (sym (none_else q r (λ e. n (e ∙ sym (alone_row row q h)))))
+last_others (Many ws) row r t h n =
+    let one : get_or ws.by_row row 0 ≡ 1 = weight_counted (get_or ws.by_row row 0) h in
+    let all : sum ws.by_row ≡ 1 = sym ws.counted ∙ t in
+    let none : get_or ws.by_row r 0 ≡ 0 = omega (arith, two_within ws.by_row row r n) in
+    rw (ne_eqb r row n) (sym (counted_none (get_or ws.by_row r 0) none))
+
+-- the only weight stands alone
+pub only_others : (o : Owners) (row r : ℕ) → total_of o ≡ 1 → weight_of (held_by row o) ≡ 1 → r ≢ row → held_by r (Alone row) ≡ held_by r o
+only_others (Spare q) row r t h n = absurd (omega arith)
+only_others (Alone q) row r t h n = rw (none_else row r n) (sym (none_else q r (λ e. n (e ∙ sym (alone_row row q h)))))
+only_others (Many ws) row r t h n =
+    let one : get_or ws.by_row row 0 ≡ 1 = weight_counted (get_or ws.by_row row 0) h in
+    let all : sum ws.by_row ≡ 1 = sym ws.counted ∙ t in
+    let none : get_or ws.by_row r 0 ≡ 0 = omega (arith, two_within ws.by_row row r n) in
+    rw (none_else row r n) (sym (counted_none (get_or ws.by_row r 0) none))

@@ -1,0 +1,10 @@
+pub mod Entries
+pub mod Holding
+pub mod Calls
+pub mod Rows
+pub mod Tables
+pub mod Transfers
+pub mod Joining
+pub mod Start
+pub mod Telling
+pub mod Parts
