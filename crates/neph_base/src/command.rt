@@ -1,5 +1,5 @@
 // What a guest may do.
-use crate::numbers::VAddr;
+use crate::numbers::{Pfn, VAddr, Vpn};
 use crate::piece::Piece;
 
 /// How a page is mapped.
@@ -18,6 +18,20 @@ pub enum Command {
     W { addr: VAddr, bytes: Piece },
     /// Reads this many bytes, 1 to 64, at the address.
     R { addr: VAddr, len: u8 },
+    /// Lets a virtual page show a page of the guest, in place of what it showed.
+    Map { vpn: Vpn, pfn: Pfn, mode: Mode },
+    /// Lets a virtual page show nothing.
+    Unmap { vpn: Vpn },
+    /// Goes on at a label: its place among the labels of the program, from 0.
+    Jump { label: u16 },
+    /// Goes on at a label where the domain came as a child.
+    JChild { label: u16 },
+    /// Goes on at a label where the last command that was no jump was refused.
+    JFail { label: u16 },
     /// Ends the domain.
     Exit,
+    /// Asks how many frames are free.
+    Free,
+    /// Clones the domain.
+    Clone,
 }

@@ -22,6 +22,10 @@ pub enum Actor {
 pub enum Entry {
     /// The command at a line of a domain's program.
     Line { dom: DomId, line: u16 },
+    /// The commit of the clone that a domain began at a line.
+    Commit { dom: DomId, line: u16 },
+    /// The second stage of the oldest committed clone.
+    Daemon,
 }
 
 /// Why a command was refused.
@@ -31,8 +35,16 @@ pub enum Refusal {
     Unmapped,
     /// The page is mapped read-only.
     ReadOnly,
-    /// No frame is free for the copy that the write needs.
+    /// The guest has no such page, or it may not be mapped writable.
+    BadPfn,
+    /// No frame is free for the copy or the leaf table that is needed.
     NoFrame,
+    /// The domain has made as many clones as it may.
+    Limit,
+    /// Every id was given.
+    Ids,
+    /// The clone needs more frames than are free.
+    Frames { need: u32, free: u32 },
 }
 
 /// What an entry was answered.
@@ -40,8 +52,18 @@ pub enum Refusal {
 pub enum Reply {
     /// It was done.
     Done,
+    /// The jump was taken.
+    Go,
+    /// The jump was not taken.
+    On,
     /// The domain ended.
     Ended,
+    /// A count.
+    Number(u32),
+    /// A clone was begun, whose child will have this id.
+    Begun(DomId),
+    /// The clone with this id was committed, or is joined to the devices.
+    Child(DomId),
     /// The bytes that were read.
     Bytes(Piece),
     /// It was refused.

@@ -1,5 +1,9 @@
 pub mod Shown
-pub mod Domains
-pub mod Measures
-pub mod Runs
+pub mod Children
+pub mod Works
+pub mod Lines
+pub mod Falls
+pub mod Keeps
 pub mod Moves
+pub mod Runs
+pub mod Coloured

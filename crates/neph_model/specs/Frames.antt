@@ -18,9 +18,14 @@ pub record Counts : Type 0 where
 abbrev pub free_frames : Counts → ℕ
 free_frames c = c.total - (c.colours + c.tables + c.spares + c.aside)
 
--- A domain's frames: one for each page, its root table and its leaf tables.
-abbrev pub page_frames : Domain → ℕ
-page_frames d = length d.pages
-
+-- a domain's root table and its leaf tables
 abbrev pub table_frames : Domain → ℕ
 table_frames d = 1 + length d.leaves
+
+-- The identity page and the three device pages, which no domain shares with another. The device pages are granted to domain 0 from the start, and so exposed.
+abbrev pub own_pages : ℕ
+own_pages = 4
+
+-- the frames that a clone of a domain needs: for its tables and its own pages
+abbrev pub need : Domain → ℕ
+need d = table_frames d + own_pages

@@ -1,21 +1,36 @@
 -- What holds of each script that can be spelled.
-use Rattle.std.specs.Prelude.{ℕ, ◌+◌, ◌%◌, ◌<◌, ◌≤◌, length, ⊤, All}
+use Rattle.std.specs.Prelude.{ℕ, ◌+◌, ◌%◌, ◌<◌, ◌≤◌, length, ⊤, All, List}
 use Rattle.neph_base.specs.declared.command.Command.{Command}
-use Rattle.neph_base.specs.declared.command.Command.TheVariants.{W, R, Exit}
+use Rattle.neph_base.specs.declared.command.Command.TheVariants.{W, R, Jump, JChild, JFail}
 use Rattle.neph_model.specs.declared.script.Script.{Script}
 use Rattle.neph_model.specs.declared.script.Program.{Program}
+use Rattle.neph_model.specs.declared.script.Label.{Label}
 use Rattle.neph_model.specs.declared.script.Start.{Start}
+use Rattle.neph_model.specs.Machine.{command_in, label_line}
 
 -- no command reads or writes past the end of a page, and a read has 1 to 64 bytes
 abbrev pub FitsPage : Command → Type 0
 FitsPage (W addr bytes) = addr % 4096 + length bytes ≤ 4096
 FitsPage (R addr len) = (0 < len) × (len ≤ 64) × (addr % 4096 + len ≤ 4096)
-FitsPage Exit = ⊤
+FitsPage _ = ⊤
 
--- a program of at most 512 commands that fit
+-- the label at this place is one of these, and stands after this line
+abbrev pub IsAhead : List Label → ℕ → ℕ → Type 0
+IsAhead labels line place = (place < length labels) × (line < label_line labels place)
+
+-- a command at this line jumps to a label after it, if it jumps
+abbrev pub JumpsAhead : List Label → ℕ → Command → Type 0
+JumpsAhead labels line (Jump label) = IsAhead labels line label
+JumpsAhead labels line (JChild label) = IsAhead labels line label
+JumpsAhead labels line (JFail label) = IsAhead labels line label
+JumpsAhead labels line _ = ⊤
+
+-- a program of at most 512 commands that fit, and of labels that stand in it
 pub record IsLawfulProgram (p : Program) : Type 0 where
   pub fit : All FitsPage p.commands
   pub few : length p.commands ≤ 512
+  pub labels : All (λ (l : Label). l.at ≤ length p.commands) p.labels
+  pub ahead : (line : ℕ) → JumpsAhead p.labels line (command_in p.commands line)
 
 -- a domain line with its pages and its limit in range, which names a program
 pub record IsLawfulStart (programs : ℕ) (t : Start) : Type 0 where

@@ -1,10 +1,13 @@
 pub mod Memory
-pub mod Machine
 pub mod Frames
+pub mod Machine
+pub mod Clone
 pub mod Step
+pub mod Books
 pub mod Turns
 pub mod Run
+pub mod Measures
+pub mod Laws
 pub mod Words
-pub mod Transcript
 pub mod Lawful
-pub mod Grammar
+pub mod Transcript

@@ -1,19 +1,20 @@
 -- The transcript of a run.
-use Rattle.std.specs.Prelude.{ℕ, ◌-◌, if◌then◌else◌, List, [], ◌∷◌, ◌++◌, Option, None, Some, slice_get, codes}
-use Rattle.std.specs.List.{flat_map, sum_by}
+use Rattle.std.specs.Prelude.{ℕ, ◌-◌, if◌then◌else◌, List, [], ◌∷◌, ◌++◌, Option, None, Some, slice_get, slice_set, slice_index, codes}
+use Rattle.std.specs.List.{range_with_len}
 use Rattle.std.specs.Fmt.{decimal}
-use Rattle.neph_base.specs.declared.command.Command.{Command}
 use Rattle.neph_base.specs.declared.reply.Noted.{Noted}
 use Rattle.neph_base.specs.declared.reply.Entry.{Entry}
-use Rattle.neph_base.specs.declared.reply.Entry.TheVariants as entry
+use Rattle.neph_base.specs.declared.reply.Entry.TheVariants.{Line, Commit, Daemon}
 use Rattle.neph_base.specs.declared.reply.Reply.{Reply}
-use Rattle.neph_base.specs.declared.reply.Reply.TheVariants.{Done, Ended, Bytes, Refused}
+use Rattle.neph_base.specs.declared.reply.Reply.TheVariants.{Done, Go, On, Ended, Number, Begun, Child, Bytes, Refused}
 use Rattle.neph_base.specs.declared.reply.Refusal.{Refusal}
-use Rattle.neph_base.specs.declared.reply.Refusal.TheVariants.{Unmapped, ReadOnly, NoFrame}
+use Rattle.neph_base.specs.declared.reply.Refusal.TheVariants.{Unmapped, ReadOnly, BadPfn, NoFrame, Limit, Ids, Frames}
 use Rattle.neph_model.specs.declared.script.Script.{Script}
+use Rattle.neph_model.specs.declared.script.Program.{Program}
 use Rattle.neph_model.specs.declared.script.Start.{Start}
-use Rattle.neph_model.specs.Machine.{Machine, commands_of, command_in}
-use Rattle.neph_model.specs.Frames.{Counts, free_frames, page_frames, table_frames}
+use Rattle.neph_model.specs.Machine.{commands_of, labels_of, command_in}
+use Rattle.neph_model.specs.Frames.{Counts, free_frames}
+use Rattle.neph_model.specs.Books.{counts}
 use Rattle.neph_model.specs.Run.{Ran}
 use Rattle.neph_model.specs.Words.{command_words, spaced, hex}
 
@@ -21,12 +22,21 @@ use Rattle.neph_model.specs.Words.{command_words, spaced, hex}
 abbrev pub refusal_text : Refusal → List ℕ
 refusal_text Unmapped = codes "unmapped"
 refusal_text ReadOnly = codes "readonly"
+refusal_text BadPfn = codes "badpfn"
 refusal_text NoFrame = codes "noframe"
+refusal_text Limit = codes "limit"
+refusal_text Ids = codes "ids"
+refusal_text (Frames need free) = codes "frames " ++ decimal need ++ codes " " ++ decimal free
 
 -- a reply behind ` = `
 abbrev pub reply_text : Reply → List ℕ
 reply_text Done = codes "ok"
+reply_text Go = codes "go"
+reply_text On = codes "on"
 reply_text Ended = codes "ended"
+reply_text (Number n) = decimal n
+reply_text (Begun child) = codes "begin " ++ decimal child
+reply_text (Child child) = decimal child
 reply_text (Bytes bytes) = hex bytes
 reply_text (Refused why) = codes "no " ++ refusal_text why
 
@@ -35,26 +45,40 @@ abbrev pub program_of : Option Start → ℕ
 program_of None = 0
 program_of (Some t) = t.program
 
--- the commands of the program of a family: that of the domain line with its number, counted from 1
-abbrev pub family_commands : Script → ℕ → List Command
-family_commands s family = commands_of (slice_get s.programs (program_of (slice_get s.starts (family - 1))))
+-- the program of a family: that of the domain line with its number, counted from 1
+abbrev pub family_program : Script → ℕ → Option Program
+family_program s family = slice_get s.programs (program_of (slice_get s.starts (family - 1)))
 
--- the line of an entry of a family: the domain and its line, the command as the script has it, and the reply
+-- the text of a program's command at a line
+abbrev pub command_text : Option Program → ℕ → List ℕ
+command_text p line = spaced (command_words (labels_of p) (command_in (commands_of p) line))
+
+-- the line of an entry of a family: of a domain its place, then the command as the script has it or its commit, and the reply
 abbrev pub entry_line : Script → ℕ → Entry → Reply → List ℕ
-entry_line s family (entry.Line dom line) reply =
-    decimal dom ++ codes ":" ++ decimal line ++ codes " " ++ spaced (command_words (command_in (family_commands s family) line)) ++ codes " = " ++ reply_text reply ++ codes "\n"
+entry_line s family (Line dom line) reply =
+    decimal dom ++ codes ":" ++ decimal line ++ codes " " ++ command_text (family_program s family) line ++ codes " = " ++ reply_text reply ++ codes "\n"
+entry_line s family (Commit dom line) reply = decimal dom ++ codes ":" ++ decimal line ++ codes " commit = " ++ reply_text reply ++ codes "\n"
+entry_line s family Daemon reply = codes "daemon = " ++ reply_text reply ++ codes "\n"
 
--- the family of an entry: that of the domain, which started with the script
-abbrev pub family_of : Entry → ℕ
-family_of (entry.Line dom line) = dom
+-- the domain of an entry, 0 for the daemon
+abbrev pub domain_of : Entry → ℕ
+domain_of (Line dom line) = dom
+domain_of (Commit dom line) = dom
+domain_of Daemon = 0
+
+-- the families of the ids from 0 to 63 behind an entry: a commit gives the child the family of its parent
+abbrev pub families_after : List ℕ → Entry → Reply → List ℕ
+families_after families (Commit dom line) (Child child) = slice_set families child (slice_index families dom)
+families_after families entry reply = families
 
 -- the lines of some entries
-abbrev pub history_text : Script → List Noted → List ℕ
-history_text s noted = flat_map (λ (x : Noted). entry_line s (family_of x.entry) x.entry x.reply) noted
+abbrev pub history_text : Script → List ℕ → List Noted → List ℕ
+history_text s families [] = []
+history_text s families (x ∷ xs) = entry_line s (slice_index families (domain_of x.entry)) x.entry x.reply ++ history_text s (families_after families x.entry x.reply) xs
 
--- What the frames of the machine are used for. No spare is held and nothing is put aside.
-abbrev pub counts : Script → Machine → Counts
-counts s m = record { total = s.frames; colours = sum_by page_frames m.live; tables = sum_by table_frames m.live; spares = 0; aside = 0 }
+-- at the start each domain is of the family with its own number
+unfoldable pub start_families : List ℕ
+start_families = range_with_len 0 64
 
 -- the line of the frames
 abbrev pub frames_line : Counts → List ℕ
@@ -67,4 +91,4 @@ end_line r = if r.stalled then codes "end stalled\n" else codes "end ended\n"
 
 -- the whole text of a run
 abbrev pub transcript : Script → Ran → List ℕ
-transcript s r = codes "transcript 1\n" ++ history_text s r.history ++ frames_line (counts s r.last) ++ end_line r
+transcript s r = codes "transcript 1\n" ++ history_text s start_families r.history ++ frames_line (counts s r.last) ++ end_line r

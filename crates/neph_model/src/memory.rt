@@ -50,6 +50,15 @@ impl Page {
     {
         overwrite(&mut self.bytes, at, bytes);
     }
+
+    /// The same page again, in memory of its own.
+    pub fn copy(&self) -> Result<Self, NoMemory>
+        ensures { IfOk result (λ c. c ≡ self.now) }
+    {
+        Ok(Page {
+            bytes: Vec::from_slice(*self.bytes.allocator(), &self.bytes)?,
+        })
+    }
 }
 
 fn overwrite(page: &mut [u8], at: usize, bytes: &[u8])
@@ -112,5 +121,21 @@ impl VMap {
     {
         self.entries.insert(vpn.get(), to)?;
         Ok(())
+    }
+
+    /// Lets a virtual page show nothing.
+    pub fn remove(&mut self, vpn: Vpn)
+        ensures { self.new ≡ map.remove self.old vpn }
+    {
+        let _shown = self.entries.remove(&vpn.get());
+    }
+
+    /// The same map again, in memory of its own.
+    pub fn copy(&self) -> Result<Self, NoMemory>
+        ensures { IfOk result (λ c. c ≡ self.now) }
+    {
+        Ok(VMap {
+            entries: self.entries.clone()?,
+        })
     }
 }

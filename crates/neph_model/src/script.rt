@@ -1,7 +1,7 @@
 // A script: what its programs do, and which domains start.
 ghost use Rattle.std.specs.Prelude.{◌≡◌, IfOk};
 
-use neph_base::{Command, Name, NoMemory};
+use neph_base::{Actor, Command, Name, NoMemory};
 use std::marker::Model;
 
 /// A script.
@@ -13,6 +13,8 @@ pub struct Script {
     pub programs: Programs,
     /// The starting domains, in the order of their lines.
     pub starts: Starts,
+    /// Who has the first turns, in order.
+    pub turns: Actors,
 }
 
 impl Script {
@@ -24,6 +26,7 @@ impl Script {
             frames: self.frames,
             programs: self.programs.copy()?,
             starts: self.starts.copy()?,
+            turns: self.turns.copy()?,
         })
     }
 }
@@ -35,6 +38,8 @@ pub struct Program {
     pub name: Name,
     /// At most 512 commands.
     pub commands: Commands,
+    /// At most 512 labels, in the order of their lines.
+    pub labels: Labels,
 }
 
 impl Program {
@@ -45,6 +50,28 @@ impl Program {
         Ok(Program {
             name: self.name.copy()?,
             commands: self.commands.copy()?,
+            labels: self.labels.copy()?,
+        })
+    }
+}
+
+/// A place in a program that jumps name.
+#[derive(Debug, Drop)]
+pub struct Label {
+    /// The label's name.
+    pub name: Name,
+    /// The number of the next command, or the number of commands where none is left.
+    pub at: u16,
+}
+
+impl Label {
+    /// The same label again, in memory of its own.
+    pub fn copy(&self) -> Result<Self, NoMemory>
+        ensures { IfOk result (λ c. c ≡ self.now) }
+    {
+        Ok(Label {
+            name: self.name.copy()?,
+            at: self.at,
         })
     }
 }
@@ -165,6 +192,86 @@ impl Starts {
 
     /// The starting domains.
     pub fn items(&self) -> &[Start]
+        ensures { result.now ≡ self.now }
+    {
+        &self.list
+    }
+
+    /// The same list again, in memory of its own.
+    pub fn copy(&self) -> Result<Self, NoMemory>
+        ensures { IfOk result (λ c. c ≡ self.now) }
+    {
+        Ok(Self::of(Vec::from_slice(*self.list.allocator(), &self.list)?))
+    }
+}
+
+/// A list of labels.
+#[derive(Debug, Drop)]
+pub struct Labels {
+    list: Vec<Label>,
+}
+
+impl Model for Labels {
+    ghost use Rattle.std.specs.Prelude.{List};
+    ghost use Rattle.neph_model.specs.declared.script.Label.{Label};
+
+    ghost Value = { List Label };
+
+    ghost view = { λ a. a.list.items };
+}
+
+impl Labels {
+    /// The list of these labels.
+    pub fn of(list: Vec<Label>) -> Self
+        ensures { result ≡ list.items }
+    {
+        Labels { list }
+    }
+
+    /// The labels.
+    pub fn items(&self) -> &[Label]
+        ensures { result.now ≡ self.now }
+    {
+        &self.list
+    }
+
+    /// The same list again, in memory of its own.
+    pub fn copy(&self) -> Result<Self, NoMemory>
+        ensures { IfOk result (λ c. c ≡ self.now) }
+    {
+        let mut list = Vec::with_capacity(*self.list.allocator(), self.list.len())?;
+        for item in &self.list {
+            list.push(item.copy()?)?;
+        }
+        Ok(Self::of(list))
+    }
+}
+
+/// A list of actors.
+#[derive(Debug, Drop)]
+pub struct Actors {
+    list: Vec<Actor>,
+}
+
+impl Model for Actors {
+    ghost use Rattle.std.specs.Prelude.{List};
+    ghost use Rattle.neph_base.specs.declared.reply.Actor.{Actor};
+
+    ghost Value = { List Actor };
+
+    ghost view = { λ a. a.list.items };
+}
+
+impl Actors {
+    /// The list of these actors.
+    pub fn of(list: Vec<Actor>) -> Self
+        ensures { result ≡ list.items }
+    {
+        Actors { list }
+    }
+
+    /// The actors.
+    pub fn items(&self) -> &[Actor]
         ensures { result.now ≡ self.now }
     {
         &self.list

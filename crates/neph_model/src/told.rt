@@ -5,6 +5,8 @@
 pub enum Told {
     /// There are enough for what it needs.
     Enough,
-    /// None is left for a copy.
+    /// None is left for a copy or a leaf table.
     Short,
+    /// This many are free.
+    Free(u32),
 }

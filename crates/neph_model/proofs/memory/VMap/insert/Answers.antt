@@ -1,4 +1,4 @@
-use Rattle.std.proofs.Common.{ap, sym, ◌∙◌}
+use Rattle.std.proofs.Common.{ap, ◌∙◌}
 use Rattle.std.specs.FinMap as map
 use Rattle.neph_model.proofs.Shown.{one_put}
 use Rattle.neph_model.proofs.memory.VMap.insert.Goals as goal
