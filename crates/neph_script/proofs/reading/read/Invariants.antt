@@ -1,0 +1,15 @@
+use Rattle.std.proofs.Common.{◌≡◌, ◌≤◌, ◌+◌, length}
+use Rattle.neph_script.specs.Grammar.{read_lines, read_script, lines}
+use Rattle.neph_script.specs.Seen.{seen, IsSound}
+use Rattle.neph_script.proofs.reading.read.Given as goal
+
+abbrev pub invariant-lines : goal.invariant-lines
+invariant-lines l =
+    record {
+      sound : IsSound l.reader;
+      line : l.line + length l.rest ≤ length l.bytes + 1;
+      read : read_lines l.line (seen l.reader) (lines l.rest) ≡ read_script l.bytes;
+    }
+
+abbrev pub decreases-lines : goal.decreases-lines
+decreases-lines l = length l.rest

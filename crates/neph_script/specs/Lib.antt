@@ -1,0 +1,15 @@
+pub mod Forms
+pub mod Kinds
+pub mod Words
+pub mod Plain
+pub mod Outcomes
+pub mod Commands
+pub mod Index
+pub mod State
+pub mod Room
+pub mod Lines
+pub mod Spelling
+pub mod Text
+pub mod Grammar
+pub mod Seen
+pub mod Spells

@@ -1,0 +1,22 @@
+//! The grammar of scripts: reads them, and prints them again.
+#![tactic(auto)]
+
+mod command;
+mod form;
+mod index;
+mod judge;
+pub mod laws;
+mod printing;
+mod reading;
+mod room;
+mod settle;
+mod state;
+#[cfg(test)]
+mod tests;
+mod why;
+mod word;
+
+pub use neph_model::Script;
+pub use printing::print_script;
+pub use reading::parse;
+pub use why::{BadScript, ParseEnd, Why};
