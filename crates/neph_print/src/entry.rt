@@ -1,0 +1,97 @@
+// The line of an entry.
+ghost use Rattle.std.specs.Prelude.{◌≡◌, ◌++◌, IfOk, OnOk, codes};
+ghost use Rattle.std.specs.Fmt.{decimal};
+ghost use Rattle.neph_model.specs.Transcript.{entry_line, refusal_text, reply_text};
+
+use crate::basic::{put_hex, put_labelled, put_number, put_word};
+use crate::command::put_family_command;
+use neph_base::{DomId, Entry, NoMemory, Refusal, Reply};
+use neph_model::Script;
+use std::alloc::Global;
+
+/// The line of a transcript for an entry of a domain of this family, with its line feed. A family is the number of a `domain` line, from 1.
+pub fn entry_line(
+    alloc: Global,
+    s: &Script,
+    family: u8,
+    e: &Entry,
+    r: &Reply,
+) -> Result<Vec<u8>, NoMemory>
+    ensures { IfOk result (λ line. line.items ≡ entry_line s.now family e.now r.now) }
+{
+    let mut line = Vec::new(alloc);
+    put_entry_line(&mut line, s, family, *e, *r)?;
+    Ok(line)
+}
+
+/// Puts the line of an entry behind a text.
+pub fn put_entry_line(
+    text: &mut Vec<u8>,
+    s: &Script,
+    family: u8,
+    entry: Entry,
+    reply: Reply,
+) -> Result<(), NoMemory>
+    ensures { OnOk result (text.new.items ≡ text.old.items ++ entry_line s.now family entry reply) }
+{
+    match entry {
+        Entry::Line { dom, line } => {
+            put_place(text, dom, line)?;
+            put_family_command(text, s, family, line)?;
+        }
+        Entry::Commit { dom, line } => {
+            put_place(text, dom, line)?;
+            text.extend_from_slice(b"commit")?;
+        }
+        Entry::Daemon => text.extend_from_slice(b"daemon")?,
+    }
+    text.extend_from_slice(b" = ")?;
+    put_reply(text, reply)?;
+    text.extend_from_slice(b"\n")?;
+    Ok(())
+}
+
+// The place of a domain's entry, with a space behind it.
+fn put_place(text: &mut Vec<u8>, dom: DomId, line: u16) -> Result<(), NoMemory>
+    ensures { OnOk result (text.new.items ≡ text.old.items ++ (decimal dom ++ codes ":" ++ decimal line ++ codes " ")) }
+{
+    put_number(text, dom.get())?;
+    put_labelled(text, b":", u32::from(line))?;
+    put_word(text, b" ")
+}
+
+fn put_reply(text: &mut Vec<u8>, reply: Reply) -> Result<(), NoMemory>
+    ensures { OnOk result (text.new.items ≡ text.old.items ++ reply_text reply) }
+{
+    match reply {
+        Reply::Done => put_word(text, b"ok"),
+        Reply::Go => put_word(text, b"go"),
+        Reply::On => put_word(text, b"on"),
+        Reply::Ended => put_word(text, b"ended"),
+        Reply::Number(n) => put_number(text, n),
+        Reply::Begun(child) => put_labelled(text, b"begin ", child.get()),
+        Reply::Child(child) => put_number(text, child.get()),
+        Reply::Bytes(bytes) => put_hex(text, bytes.bytes()),
+        Reply::Refused(why) => {
+            text.extend_from_slice(b"no ")?;
+            put_refusal(text, why)
+        }
+    }
+}
+
+fn put_refusal(text: &mut Vec<u8>, why: Refusal) -> Result<(), NoMemory>
+    ensures { OnOk result (text.new.items ≡ text.old.items ++ refusal_text why) }
+{
+    match why {
+        Refusal::Unmapped => put_word(text, b"unmapped"),
+        Refusal::ReadOnly => put_word(text, b"readonly"),
+        Refusal::BadPfn => put_word(text, b"badpfn"),
+        Refusal::NoFrame => put_word(text, b"noframe"),
+        Refusal::Limit => put_word(text, b"limit"),
+        Refusal::Ids => put_word(text, b"ids"),
+        Refusal::Frames { need, free } => {
+            put_labelled(text, b"frames ", need)?;
+            put_labelled(text, b" ", free)
+        }
+    }
+}

@@ -1,0 +1,54 @@
+// The lines of a history.
+ghost use Rattle.std.specs.Prelude.{◌≡◌, ◌++◌, ◌<◌, length, OnOk};
+ghost use Rattle.neph_model.specs.Transcript.{domain_of, families_after, history_text, start_families};
+
+use crate::entry::put_entry_line;
+use neph_base::{Entry, NoMemory, Noted, Reply};
+use neph_model::Script;
+
+/// Puts the lines of the entries of a run from its start, in order, behind a text.
+pub fn put_history(text: &mut Vec<u8>, s: &Script, history: &[Noted]) -> Result<(), NoMemory>
+    ensures { OnOk result (text.new.items ≡ text.old.items ++ history_text s.now start_families history.now) }
+{
+    let mut families = start_families();
+    for noted in history {
+        let family = families[domain_of(noted.entry)];
+        put_entry_line(text, s, family, noted.entry, noted.reply)?;
+        note_child(&mut families, noted.entry, noted.reply);
+    }
+    Ok(())
+}
+
+// At the start each domain is of the family with its own number.
+fn start_families() -> [u8; 64]
+    ensures { result ≡ start_families }
+{
+    let mut families = [0; 64];
+    for id in 0..64u8 {
+        families[id as usize] = id;
+    }
+    families
+}
+
+fn domain_of(entry: Entry) -> usize
+    ensures value { result ≡ domain_of entry }
+    ensures range { result < 64 }
+{
+    match entry {
+        Entry::Line { dom, .. } | Entry::Commit { dom, .. } => dom.get() as usize,
+        Entry::Daemon => 0,
+    }
+}
+
+// A commit gives the child the family of its parent.
+fn note_child(families: &mut [u8; 64], entry: Entry, reply: Reply)
+    ensures after { families.new ≡ families_after families.old entry reply }
+{
+    let Entry::Commit { dom, .. } = entry else {
+        return;
+    };
+    let Reply::Child(child) = reply else {
+        return;
+    };
+    families[child.get() as usize] = families[dom.get() as usize];
+}
