@@ -1,4 +1,4 @@
-pub mod State
+pub mod Flat
 pub mod Sound
+pub mod Slots
 pub mod Did
-pub mod Places

@@ -3,25 +3,47 @@ ghost use Rattle.std.specs.Prelude.{◌≡◌, ◌+◌, ◌<◌, ◌≤◌, IfOk
 ghost use Rattle.std.specs.List.{range_with_len};
 ghost use Rattle.neph_model.specs.Frames.{started_512s};
 ghost use Rattle.neph_model.specs.Lawful.{IsLawful};
-ghost use Rattle.neph_model.specs.Machine.{start_vmap, start_pages, start_domain, start_domains, identity_page};
+ghost use Rattle.neph_model.specs.Machine.{start_vmap, start_pages, start_domain, start_machine, identity_page, live_count};
+ghost use Rattle.neph_flat.specs.Slots.{seen};
 
+use crate::slots::Slots;
 use neph_base::{DomId, Mode, NoMemory, Pfn, Vpn};
 use neph_model::{Domain, Leaves, Mapping, Page, Pages, Script, Start, VMap};
 use std::alloc::Global;
+use std::collections::VecDeque;
 
-/// The starting domains of a script.
-pub fn start_domains(alloc: Global, s: &Script) -> Result<Vec<Domain>, NoMemory>
+/// The machine at the start of a script.
+pub fn start_slots(alloc: Global, s: &Script) -> Result<Slots, NoMemory>
     requires { IsLawful s.now }
-    ensures { IfOk result (λ v. v.items ≡ start_domains 1 s.now.starts) }
+    ensures machine { IfOk result (λ a. seen a ≡ start_machine s.now) }
+    ensures live { IfOk result (λ a. a.live ≡ live_count a.domains.items) }
+{
+    let live = s.starts.items().len();
+    Ok(Slots {
+        domains: start_domains(alloc, s)?,
+        live,
+        next: live as u8 + 1,
+        waiting: VecDeque::new(alloc),
+    })
+}
+
+// The domains of all ids at the start: none with id 0, the starting ones, and no other.
+fn start_domains(alloc: Global, s: &Script) -> Result<Vec<Option<Domain>>, NoMemory>
+    requires { IsLawful s.now }
+    ensures { IfOk result (λ v. v.items ≡ (start_machine s.now).domains) }
 {
     let starts = s.starts.items();
-    let mut live = Vec::with_capacity(alloc, starts.len())?;
+    let mut domains = Vec::with_capacity(alloc, 64)?;
+    domains.push(None)?;
     let mut id = 1;
     for start in starts {
-        live.push(start_domain(alloc, id, start)?)?;
+        domains.push(Some(start_domain(alloc, id, start)?))?;
         id += 1;
     }
-    Ok(live)
+    for _ in starts.len()..63 {
+        domains.push(None)?;
+    }
+    Ok(domains)
 }
 
 fn start_domain(alloc: Global, id: u8, start: &Start) -> Result<Domain, NoMemory>
@@ -37,8 +59,11 @@ fn start_domain(alloc: Global, id: u8, start: &Start) -> Result<Domain, NoMemory
         family: id,
         program: start.program,
         line: 0,
+        came: false,
         refused: false,
         limit: start.limit,
+        accepted: 0,
+        begun: None,
         pages: start_pages(alloc, id, start.pages)?,
         vmap: start_vmap(alloc, start.pages)?,
         leaves: start_leaves(alloc, start.pages)?,
