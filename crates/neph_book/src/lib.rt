@@ -1,0 +1,9 @@
+//! What the turns keep of the domains beside their plain records, with the colours of pages counted.
+#![tactic(auto)]
+
+mod ledger;
+mod opening;
+mod palette;
+mod turnover;
+
+pub use ledger::Ledger;
