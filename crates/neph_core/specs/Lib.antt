@@ -1,0 +1,4 @@
+pub mod Course
+pub mod Does
+pub mod Plays
+pub mod Kept

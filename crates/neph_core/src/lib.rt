@@ -1,0 +1,10 @@
+//! The run of a script by turns, on the plain machine and the books of its domains.
+#![tactic(auto)]
+
+mod machine;
+mod moves;
+mod parts;
+mod rounds;
+
+pub use machine::Machine;
+pub use rounds::play;
