@@ -1,9 +1,3 @@
 pub mod Alone
 pub mod Answered
 pub mod Numbered
-pub mod Rounds
-pub mod Cuts
-pub mod Lines
-pub mod Numerals
-pub mod Pairs
-pub mod Spelled

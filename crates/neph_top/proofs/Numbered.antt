@@ -1,12 +1,11 @@
 -- What each number of a status says.
-use Rattle.std.proofs.Common.{◌≡◌, ℕ, ◌<◌, ◌≤◌, List, [], length, Option, Some, None, arith, inl, inr, refl}
+use Rattle.std.proofs.Common.{◌≡◌, ℕ, ◌<◌, ◌≤◌, List, length, Option, Some, None, arith, inl, inr, refl}
 use Rattle.std.specs.Prelude.{IfSome, ◌⊎◌}
-use Rattle.neph_io.specs.Causes.{Rose}
 use Rattle.neph_model.specs.declared.script.Script.{Script}
-use Rattle.neph_model.specs.Grammar.{Spells}
+use Rattle.neph_script.specs.Spells.{Spells}
 use Rattle.neph_top.specs.declared.status.Status.{Status}
-use Rattle.neph_top.specs.declared.status.Status.TheVariants.{Ended, Unbuilt, TooLong, NoMemory, ReadFault, WriteFault}
-use Rattle.neph_top.specs.Call.{Seen, Called, IsTranscript, IsUnbuilt, limit, number, AnswersRun, WritesTranscript, WritesUnbuilt, WritesTooLong, LacksMemory, FailsToRead, FailsToWrite}
+use Rattle.neph_top.specs.declared.status.Status.TheVariants.{Ended, Refused, TooLong, NoMemory, ReadFault, WriteFault}
+use Rattle.neph_top.specs.Call.{Seen, Called, IsTranscript, SpellsNone, limit, number, AnswersRun}
 
 -- where the bytes are told, and this holds of them, so does that
 told : (left : Option (List ℕ)) (P Q : List ℕ → Type 0) → ((xs : List ℕ) → P xs → Q xs) → IfSome left P → IfSome left Q
@@ -22,7 +21,7 @@ abbrev pub Accepts : ℕ → List ℕ → Type 0
 Accepts n bytes = length bytes ≤ limit → (s : Script) → Spells bytes s → (n ≡ 0) ⊎ (n ≡ 5)
 
 abbrev pub Refuses : ℕ → List ℕ → Type 0
-Refuses n bytes = IsUnbuilt bytes ⊎ (limit < length bytes) → (n ≡ 4) ⊎ (n ≡ 5)
+Refuses n bytes = SpellsNone bytes ⊎ (limit < length bytes) → (n ≡ 4) ⊎ (n ≡ 5)
 
 not_refused : (bytes text : List ℕ) (n : ℕ) → length bytes ≤ limit → IsTranscript bytes text → Refuses n bytes
 not_refused bytes text n few is (inl none) = absurd (none is.script is.spelled)
@@ -40,7 +39,7 @@ answers_run c Ended h =
       complete = λ r w. any c.left (Accepts 0) (λ xs few s is. inl refl);
       complete_refused = λ r w. told c.left _ (Refuses 0) (λ xs p. not_refused xs p.1.0 0 p.0 p.1.1) h.text;
     }
-answers_run c Unbuilt h =
+answers_run c Refused h =
     record {
       transcript = λ e. absurd (omega arith);
       refused = λ e. inl h;
@@ -48,7 +47,7 @@ answers_run c Unbuilt h =
       read = λ e. absurd (omega arith);
       write = λ e. absurd (omega arith);
       one = inr (inl refl);
-      complete = λ r w. told c.left (λ bytes. (length bytes ≤ limit) × IsUnbuilt bytes) (Accepts 4) (λ xs p few s is. absurd (p.1 s is)) h.unbuilt;
+      complete = λ r w. told c.left _ (Accepts 4) (λ xs p few s is. absurd (p.1.1.none s is)) h.text;
       complete_refused = λ r w. any c.left (Refuses 4) (λ xs o. inl refl);
     }
 answers_run c TooLong h =

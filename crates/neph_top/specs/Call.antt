@@ -1,22 +1,25 @@
 -- What a call of the program does, by its answer.
-use Rattle.std.specs.Prelude.{◌≡◌, ◌⊎◌, ◌<◌, ◌≤◌, ℕ, true, false, List, [], Option, length, codes, IfSome}
+use Rattle.std.specs.Prelude.{◌≡◌, ◌⊎◌, ◌<◌, ◌≤◌, ◌++◌, ℕ, true, false, List, [], Option, length, codes, IfSome}
 use Rattle.std.specs.Io.KnownBytes.{Appends, IsAtEnd}
 use Rattle.neph_io.specs.Causes.{Rose}
 use Rattle.neph_io.specs.Streams.{AppendsFront}
 use Rattle.neph_model.specs.declared.script.Script.{Script}
-use Rattle.neph_model.specs.Grammar.{Spells}
+use Rattle.std.specs.Fmt.{decimal}
+use Rattle.neph_script.specs.declared.why.BadScript.{BadScript}
+use Rattle.neph_script.specs.Kinds.{kind_word}
+use Rattle.neph_script.specs.Spells.{Spells, IsFault}
 use Rattle.neph_model.specs.Machine.{is_over}
 use Rattle.neph_model.specs.Run.{Ran, IsRun}
 use Rattle.neph_model.specs.Transcript.{transcript}
 use Rattle.neph_top.specs.declared.status.Status.{Status}
-use Rattle.neph_top.specs.declared.status.Status.TheVariants.{Ended, Unbuilt, TooLong, NoMemory, ReadFault, WriteFault}
+use Rattle.neph_top.specs.declared.status.Status.TheVariants.{Ended, Refused, TooLong, NoMemory, ReadFault, WriteFault}
 
 -- the text is the transcript of the script's run, and no domain is live at its end
 pub record Transcribes (s : Script) (text : List ℕ) : Type 0 where
   pub ran : Ran
   pub run : IsRun s ran
   pub ended : ran.stalled ≡ false
-  pub over : is_over ran.last ≡ true
+  pub over : is_over ran.last.machine ≡ true
   pub text_is : text ≡ transcript s ran
 
 -- the text is the transcript of the run of the script that the bytes spell
@@ -25,16 +28,24 @@ pub record IsTranscript (bytes text : List ℕ) : Type 0 where
   pub spelled : Spells bytes script
   pub transcribed : Transcribes script text
 
+-- the text that names the first line that can't stand, and why
+abbrev pub refusal_text : BadScript → List ℕ
+refusal_text bad = codes "script " ++ decimal bad.line ++ codes " " ++ kind_word bad.why ++ codes "\n"
+
 -- no script is spelled
-abbrev pub IsUnbuilt : List ℕ → Type 0
-IsUnbuilt bytes = (s : Script) → Spells bytes s → ⊥
+abbrev pub SpellsNone : List ℕ → Type 0
+SpellsNone bytes = (s : Script) → Spells bytes s → ⊥
+
+-- the bytes spell no script, and the text names their first line that can't stand
+pub record IsRefusal (bytes text : List ℕ) : Type 0 where
+  pub none : SpellsNone bytes
+  pub bad : BadScript
+  pub fault : IsFault bytes bad
+  pub text_is : text ≡ refusal_text bad
 
 -- the most bytes of a script
 abbrev pub limit : ℕ
 limit = 1048576
-
-abbrev pub unbuilt_text : List ℕ
-unbuilt_text = codes "script 0 unbuilt\n"
 
 abbrev pub too_long_text : List ℕ
 too_long_text = codes "too long\n"
@@ -45,7 +56,7 @@ usage_text = codes "usage: nephele run or race N or gen SEED DOMAINS LINES\n"
 -- what is to be written for these bytes
 abbrev pub Answers : List ℕ → List ℕ → Type 0
 Answers bytes text =
-    ((length bytes ≤ limit) × IsTranscript bytes text) ⊎ ((length bytes ≤ limit) × IsUnbuilt bytes × (text ≡ unbuilt_text)) ⊎ ((limit < length bytes) × (text ≡ too_long_text))
+    ((length bytes ≤ limit) × IsTranscript bytes text) ⊎ ((length bytes ≤ limit) × IsRefusal bytes text) ⊎ ((limit < length bytes) × (text ≡ too_long_text))
 
 -- what a call saw: the bytes that its source had left before and after it, those that its sink had taken, and how often each had failed
 pub record Seen : Type 0 where
@@ -78,10 +89,9 @@ pub record WritesTranscript (c : Seen) : Type 0 where
   pub read : IsAtEnd c.rest
   pub faults : NoFault c
 
--- the source was read to its end, its bytes spell no script, and the sink took that answer
-pub record WritesUnbuilt (c : Seen) : Type 0 where
-  pub unbuilt : IfSome c.left (λ bytes. (length bytes ≤ limit) × IsUnbuilt bytes)
-  pub taken : Appends c.old c.new unbuilt_text
+-- the source was read to its end, its bytes spell no script, and the sink took their first line that can't stand, with its kind
+pub record WritesRefusal (c : Seen) : Type 0 where
+  pub text : IfSome c.left (λ bytes. (length bytes ≤ limit) × ((text : List ℕ) × IsRefusal bytes text × Appends c.old c.new text))
   pub read : IsAtEnd c.rest
   pub faults : NoFault c
 
@@ -110,7 +120,7 @@ pub record FailsToWrite (c : Seen) : Type 0 where
 -- what a call that runs a script has done, by its status
 abbrev pub Called : Seen → Status → Type 0
 Called c Ended = WritesTranscript c
-Called c Unbuilt = WritesUnbuilt c
+Called c Refused = WritesRefusal c
 Called c TooLong = WritesTooLong c
 Called c NoMemory = LacksMemory c
 Called c ReadFault = FailsToRead c
@@ -119,7 +129,7 @@ Called c WriteFault = FailsToWrite c
 -- the number of a status
 abbrev pub number : Status → ℕ
 number Ended = 0
-number Unbuilt = 4
+number Refused = 4
 number TooLong = 4
 number NoMemory = 5
 number ReadFault = 6
@@ -128,7 +138,7 @@ number WriteFault = 7
 -- the number that a call that runs a script answers, and what it says
 pub record AnswersRun (c : Seen) (answer : ℕ) : Type 0 where
   pub transcript : answer ≡ 0 → WritesTranscript c
-  pub refused : answer ≡ 4 → WritesUnbuilt c ⊎ WritesTooLong c
+  pub refused : answer ≡ 4 → WritesRefusal c ⊎ WritesTooLong c
   pub memory : answer ≡ 5 → LacksMemory c
   pub read : answer ≡ 6 → FailsToRead c
   pub write : answer ≡ 7 → FailsToWrite c
@@ -136,7 +146,7 @@ pub record AnswersRun (c : Seen) (answer : ℕ) : Type 0 where
   -- where a script is spelled and neither count rose, its transcript is written, or memory ran out
   pub complete : ¬ (Rose c.read_before c.read_now) → ¬ (Rose c.write_before c.write_now) → IfSome c.left (λ bytes. length bytes ≤ limit → (s : Script) → Spells bytes s → (answer ≡ 0) ⊎ (answer ≡ 5))
   -- where none is spelled or the source gives too much, and neither count rose, that is written, or memory ran out
-  pub complete_refused : ¬ (Rose c.read_before c.read_now) → ¬ (Rose c.write_before c.write_now) → IfSome c.left (λ bytes. IsUnbuilt bytes ⊎ (limit < length bytes) → (answer ≡ 4) ⊎ (answer ≡ 5))
+  pub complete_refused : ¬ (Rose c.read_before c.read_now) → ¬ (Rose c.write_before c.write_now) → IfSome c.left (λ bytes. SpellsNone bytes ⊎ (limit < length bytes) → (answer ≡ 4) ⊎ (answer ≡ 5))
 
 -- the usage line was written, and nothing was read
 pub record WritesUsage (c : Seen) : Type 0 where

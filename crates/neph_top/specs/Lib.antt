@@ -1,4 +1,1 @@
-pub mod Advances
-pub mod Ended
 pub mod Call
-pub mod Word

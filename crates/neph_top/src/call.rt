@@ -1,15 +1,16 @@
 // Reading, running and writing, by the answer.
 ghost use Rattle.std.specs.Prelude.{◌≡◌, IfOk};
 ghost use Rattle.neph_model.specs.Lawful.{IsLawful};
-ghost use Rattle.neph_top.specs.Call.{Called, Transcribes, Tells, saw};
+ghost use Rattle.neph_top.specs.Call.{Called, Transcribes, Tells, refusal_text, saw};
 
-use crate::play::play;
-use crate::reader::parse;
 use crate::status::Status;
-use crate::text::ended_text;
+use itoa::Buffer;
 use neph_base::NoMemory;
+use neph_core::play;
 use neph_io::{ReadEnd, Sink, Source, WriteFault, read_all, write_all};
 use neph_model::Script;
+use neph_print::transcript;
+use neph_script::{BadScript, ParseEnd, parse};
 use std::alloc::Global;
 
 // The most bytes of a script.
@@ -26,22 +27,37 @@ pub fn call<S: Source, K: Sink>(alloc: Global, source: &mut S, sink: &mut K) -> 
         Err(ReadEnd::NoMemory) => return Status::NoMemory,
     };
     match parse(alloc, &bytes) {
-        Err(NoMemory) => Status::NoMemory,
-        Ok(None) => told(sink, b"script 0 unbuilt\n", Status::Unbuilt),
-        Ok(Some(script)) => match transcript(alloc, &script) {
+        Err(ParseEnd::NoMemory) => Status::NoMemory,
+        Err(ParseEnd::Bad(bad)) => match refusal_text(alloc, bad) {
+            Err(NoMemory) => Status::NoMemory,
+            Ok(text) => told(sink, &text, Status::Refused),
+        },
+        Ok(script) => match text_of(alloc, &script) {
             Err(NoMemory) => Status::NoMemory,
             Ok(text) => told(sink, &text, Status::Ended),
         },
     }
 }
 
+// The line that says which line of a text can't stand, and why.
+fn refusal_text(alloc: Global, bad: BadScript) -> Result<Vec<u8>, NoMemory>
+    ensures { IfOk result (λ text. text.items ≡ refusal_text bad) }
+{
+    let mut text = Vec::from_slice(alloc, b"script ")?;
+    text.extend_from_slice(Buffer::new().format(bad.line).as_bytes())?;
+    text.extend_from_slice(b" ")?;
+    text.extend_from_slice(bad.why.word())?;
+    text.extend_from_slice(b"\n")?;
+    Ok(text)
+}
+
 // The transcript of a script's run.
-fn transcript(alloc: Global, script: &Script) -> Result<Vec<u8>, NoMemory>
+fn text_of(alloc: Global, script: &Script) -> Result<Vec<u8>, NoMemory>
     requires { IsLawful script.now }
     ensures { IfOk result (λ text. Transcribes script.now text.items) }
 {
-    let history = play(alloc, script)?;
-    ended_text(alloc, script, &history)
+    let machine = play(alloc, script)?;
+    transcript(alloc, script, machine.history(), &machine.counts(), false)
 }
 
 // Writes a text, and answers this status where the sink took all of it.

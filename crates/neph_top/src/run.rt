@@ -61,7 +61,7 @@ fn number(status: Status) -> u8
 {
     match status {
         Status::Ended => 0,
-        Status::Unbuilt | Status::TooLong => 4,
+        Status::Refused | Status::TooLong => 4,
         Status::NoMemory => 5,
         Status::ReadFault => 6,
         Status::WriteFault => 7,

@@ -5,8 +5,8 @@
 pub enum Status {
     /// All domains ended, and the transcript was written.
     Ended,
-    /// The bytes are no script.
-    Unbuilt,
+    /// A line of the bytes can't stand, and it was written which.
+    Refused,
     /// The source gave more bytes than a script may have.
     TooLong,
     /// Memory ran out.

@@ -1,5 +1,3 @@
-use Rattle.neph_top.specs.Call.{AnswersRun}
-use Rattle.std.proofs.Common.{sym, subst}
 use Rattle.neph_top.proofs.Numbered.{answers_run}
 use Rattle.neph_top.proofs.run.run_call.Goals as goal
 

@@ -1,8 +1,0 @@
-// The text of scripts of one program and one domain.
-mod cut;
-mod heading;
-mod one;
-mod whole;
-mod word;
-
-pub use whole::parse;
