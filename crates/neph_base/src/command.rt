@@ -1,5 +1,7 @@
 // What a guest may do.
-use crate::numbers::{Pfn, VAddr, Vpn};
+use crate::list::TryClone;
+use crate::memory::NoMemory;
+use crate::numbers::{DomId, Pfn, VAddr, Vpn};
 use crate::piece::Piece;
 
 /// How a page is mapped.
@@ -9,6 +11,15 @@ pub enum Mode {
     Ro,
     /// Read and written.
     Rw,
+}
+
+/// Whom a grant or an event port is for.
+#[derive(Clone, Copy, Debug, PartialEq, Eq)]
+pub enum Who {
+    /// This domain.
+    Dom(DomId),
+    /// Each child of the domain that makes it.
+    Child,
 }
 
 /// A command of a guest's program.
@@ -34,4 +45,10 @@ pub enum Command {
     Free,
     /// Clones the domain.
     Clone,
+}
+
+impl TryClone for Command {
+    fn try_clone(&self) -> Result<Self, NoMemory> {
+        Ok(*self)
+    }
 }

@@ -1,4 +1,6 @@
 // What is answered, and to what.
+use crate::list::TryClone;
+use crate::memory::NoMemory;
 use crate::numbers::DomId;
 use crate::piece::Piece;
 
@@ -15,6 +17,12 @@ pub enum Actor {
     Net,
     /// The 9P server.
     P9,
+}
+
+impl TryClone for Actor {
+    fn try_clone(&self) -> Result<Self, NoMemory> {
+        Ok(*self)
+    }
 }
 
 /// What was done.
@@ -43,6 +51,10 @@ pub enum Refusal {
     Limit,
     /// Every id was given.
     Ids,
+    /// A domain that has its network page to itself is not cloned.
+    PolicyNet,
+    /// A domain whose 9P page holds an unanswered request is not cloned.
+    PolicyP9,
     /// The clone needs more frames than are free.
     Frames { need: u32, free: u32 },
 }

@@ -150,3 +150,15 @@ room_for h k lt none =
     let more : count_by (λ n. nat_lt 0 n) (set h k 1) + test (get_or h k 0) ≡ count_by (λ n. nat_lt 0 n) h + 1 = sum_by-set test h k 1 0 lt in
     let zero_now : test (get_or h k 0) ≡ 0 = ap test none in
     omega (arith, count_by-le-length (λ n. nat_lt 0 n) (set h k 1), length-set h k 1)
+
+-- no place behind n has a count: the counts of the first n are all
+pub counted_front : (p : ℕ → Bool) → p 0 ≡ false → (h : List ℕ) (n : ℕ) → ((c : ℕ) → n ≤ c → get_or h c 0 ≡ 0) → count_by p (take n h) ≡ count_by p h
+counted_front p none [] zero zeros = refl
+counted_front p none [] (suc n) zeros = refl
+counted_front p none (x ∷ h) zero zeros =
+    let test : ℕ → ℕ = λ v. cond (p v) 1 0 in
+    let first : test x ≡ 0 = ap test (zeros 0 (omega arith)) ∙ ap (λ b. cond b 1 0) none in
+    omega (arith, counted_front p none h zero (λ c le. zeros (suc c) (omega arith)), sum_by-cons test x h, first)
+counted_front p none (x ∷ h) (suc n) zeros =
+    let test : ℕ → ℕ = λ v. cond (p v) 1 0 in
+    sum_by-cons test x (take n h) ∙ ap (λ k. test x + k) (counted_front p none h n (λ c le. zeros (suc c) (omega arith))) ∙ sym (sum_by-cons test x h)

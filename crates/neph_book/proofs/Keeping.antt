@@ -1,15 +1,17 @@
 -- What a ledger keeps, as one book changes.
-use Rattle.std.proofs.Common.{◌≡◌, ℕ, zero, suc, ◌+◌, ◌-◌, ◌*◌, ◌<◌, ◌≤◌, List, [], ◌∷◌, ◌++◌, false, length, length-append, replicate, set, get_or, All, nat_eq, refl, ap, ◌∙◌, arith}
+use Rattle.std.proofs.Common.{◌≡◌, ◌≢◌, ℕ, zero, suc, ◌+◌, ◌-◌, ◌*◌, ◌<◌, ◌≤◌, List, [], ◌∷◌, ◌++◌, false, length, length-append, replicate, set, get_or, All, nat_eq, refl, sym, ap, ◌∙◌, arith}
 use Rattle.std.specs.List.{sum_by, range_with_len}
-use Rattle.std.proofs.lemmas.List.{length-set, length-replicate}
+use Rattle.std.proofs.lemmas.List.{length-set, length-replicate, get_or_default, get_or-set_other}
 use Rattle.std.proofs.lemmas.List.Sums.{sum_by-set, sum_by-cons, count_by-le-length, get_or-le-sum_by}
 use Rattle.std.proofs.lemmas.List.FromFn.{length-range_with_len}
 use Rattle.std.proofs.lemmas.List.Elements.{All-nil, All-cons, All-head, All-tail, All-set}
 use Rattle.neph_model.specs.declared.book.Book.{Book}
 use Rattle.neph_model.specs.declared.script.Start.{Start}
-use Rattle.neph_model.specs.Books.{pages_in, no_book, book_of, start_books}
+use Rattle.neph_model.specs.declared.own.Own.{Own}
+use Rattle.neph_model.specs.declared.book.Stage.TheVariants.{Ready}
+use Rattle.neph_model.specs.Books.{Books, pages_in, no_book, book_of, start_books, book_at, put_book, child_colours, new_count, books_born}
 use Rattle.neph_book.specs.Kept.{IsKept, times, one_at}
-use Rattle.neph_book.proofs.Counting.{times_set}
+use Rattle.neph_book.proofs.Counting.{times_set, within, one_left}
 
 abbrev pub IsSmall : Book → Type 0
 IsSmall b = length b.colours ≤ 1024
@@ -69,3 +71,25 @@ recoloured b p was fresh k start held left lt is q r =
     let same : one_at was k ≡ one_at (get_or b.colours p 0) k = ap (λ n. one_at n k) is in
     let now : pages_in k (record b { spare = false; colours = set b.colours p fresh }) + one_at (get_or b.colours p 0) k ≡ pages_in k b + one_at fresh k = times_set k b.colours p fresh lt in
     omega arith
+
+-- each colour of a book was made
+pub colours_made : (list : List Book) (h : List ℕ) (i : ℕ) (d : Book) → IsKept list h → i < length list → All (λ c. c < length h) (get_or list i d).colours
+colours_made list h i d k lt j e within_list =
+    let xs = (get_or list i d).colours in
+    let c = get_or xs j 0 in
+    let same : get_or xs j e ≡ c = get_or_default xs j e 0 within_list in
+    let some : 0 < get_or h c 0 = omega (arith, one_left xs j within_list, one_of c list i d lt, k.counted c) in
+    rw same (within h c some)
+
+-- behind the commit of a child its parent is ready again
+pub books_of_commit : (old bs : Books) (o : Own) (parent child : ℕ) (colours : List ℕ) → child ≢ parent → old ≡ record bs { fresh = bs.fresh + new_count o 0 (book_at parent bs).colours }
+    → colours ≡ child_colours o 0 (book_at parent bs).colours bs.fresh
+    → let x = put_book child (book_of colours) old in
+    put_book parent (record (book_at parent x) { stage = Ready }) x ≡ put_book parent (record (book_at parent bs) { stage = Ready }) (books_born child o (book_at parent bs) bs)
+books_of_commit old bs o parent child colours apart was is =
+    let born = books_born child o (book_at parent bs) bs in
+    let x = put_book child (book_of colours) old in
+    let same : x ≡ born = ap (λ (b : Books). put_book child (book_of colours) b) was
+    ∙ ap (λ (cs : List ℕ). put_book child (book_of cs) (record bs { fresh = bs.fresh + new_count o 0 (book_at parent bs).colours })) is in
+    let here : book_at parent born ≡ book_at parent bs = get_or-set_other bs.list child parent (book_of (child_colours o 0 (book_at parent bs).colours bs.fresh)) no_book (λ e. apart (sym e)) in
+    ap (λ (b : Books). put_book parent (record (book_at parent b) { stage = Ready }) b) same ∙ ap (λ (b : Book). put_book parent (record b { stage = Ready }) born) here

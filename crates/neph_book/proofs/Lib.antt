@@ -1,3 +1,4 @@
 pub mod Counting
 pub mod Starts
 pub mod Keeping
+pub mod Heirlooms

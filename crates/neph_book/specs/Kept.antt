@@ -3,16 +3,11 @@ use Rattle.std.specs.Prelude.{ℕ, ◌≡◌, ◌<◌, ◌≤◌, ◌==◌, ◌+
 use Rattle.neph_model.specs.declared.book.Book.{Book}
 use Rattle.neph_model.specs.declared.book.Spends.{Spends}
 use Rattle.neph_model.specs.declared.book.Spends.TheVariants.{Nothing, Leaf, Copy}
-use Rattle.neph_model.specs.declared.script.Start.{Start}
-use Rattle.neph_model.specs.Books.{Books, pages_in, no_book, start_books, page_count}
+use Rattle.neph_model.specs.Books.{pages_in}
 
 -- 1 where two colours are the same, 0 otherwise
 unfoldable pub one_at : ℕ → ℕ → ℕ
 one_at colour c = if colour == c then 1 else 0
-
--- how many of four colours in a row are this one
-abbrev pub four_at : ℕ → ℕ → ℕ
-four_at colour c = one_at colour c + one_at (colour + 1) c + one_at (colour + 2) c + one_at (colour + 3) c
 
 -- how many of these colours are this one
 abbrev pub times : ℕ → List ℕ → ℕ
@@ -29,12 +24,14 @@ pub record IsKept (list : List Book) (holders : List ℕ) : Type 0 where
   pub sizes : All (λ (b : Book). length b.colours ≤ 1024) list
   pub counted : (c : ℕ) → slice_index holders c ≡ sum_by (pages_in c) list
 
--- the books of the starting domains of these lines
-abbrev pub opened : List Start → Books
-opened starts = record { list = no_book ∷ (start_books 0 starts ++ replicate (63 - length starts) no_book); fresh = page_count starts }
-
 -- a page that is to be copied is there
 abbrev pub IsThere : Spends → Book → Type 0
 IsThere Nothing b = ⊤
 IsThere Leaf b = ⊤
 IsThere (Copy pfn) b = pfn < length b.colours
+
+-- there is a colour for a copy
+abbrev pub IsWide : Spends → ℕ → Type 0
+IsWide Nothing fresh = ⊤
+IsWide Leaf fresh = ⊤
+IsWide (Copy pfn) fresh = 0 < fresh

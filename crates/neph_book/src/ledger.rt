@@ -1,16 +1,18 @@
 // The books of all domains.
-ghost use Rattle.std.specs.Prelude.{◌≡◌, ◌+◌, ◌-◌, ◌<◌, ◌≤◌, ℕ, true, length, slice_index_or, IfOk, OnOk, OnErr, All};
-ghost use Rattle.neph_model.specs.declared.domain.Domain.{Domain};
+ghost use Rattle.std.specs.Prelude.{◌≡◌, ◌≢◌, ◌+◌, ◌-◌, ◌<◌, ◌≤◌, ℕ, true, length, IfOk, OnOk, OnErr, All};
+ghost use Rattle.neph_base.specs.declared.reply.Reply.TheVariants.{Child};
+ghost use Rattle.neph_model.specs.declared.own.Own.{Own};
 ghost use Rattle.neph_model.specs.declared.script.Start.{Start};
-ghost use Rattle.neph_book.specs.Kept.{IsThere, opened};
-ghost use Rattle.neph_model.specs.Books.{book_at, put_book, is_shared, colours_used, spares_held, born};
-ghost use Rattle.neph_model.specs.Turns.{books_after};
+ghost use Rattle.neph_model.specs.Books.{Books, opening_books, book_at, put_book, pages_of, is_shared, colours_used, spares_held, fresh_spent, child_colours, new_count};
+ghost use Rattle.neph_model.specs.Turns.{books_after, books_committed, stage_after};
+ghost use Rattle.neph_book.specs.Kept.{IsThere, IsWide};
 
+use crate::inheritance::{Heirloom, child_heirloom};
 use crate::opening::open;
 use crate::palette::Palette;
 use crate::turnover::{finish, inherit, spend};
 use neph_base::{DomId, NoMemory, Reply};
-use neph_model::{Book, Spends, Start};
+use neph_model::{Book, Own, Spends, Stage, Start};
 use std::alloc::Global;
 use std::marker::Model;
 
@@ -38,7 +40,7 @@ impl Ledger {
     pub fn open(alloc: Global, starts: &[Start]) -> Result<Ledger, NoMemory>
         requires few { length starts.now ≤ 63 }
         requires sizes { All (λ (t : Start). t.pages ≤ 1024) starts.now }
-        ensures { IfOk result (λ l. l ≡ opened starts.now) }
+        ensures { IfOk result (λ l. l ≡ opening_books starts.now) }
     {
         let mut palette = Palette::new(alloc);
         let list = open(alloc, starts, &mut palette)?;
@@ -47,7 +49,8 @@ impl Ledger {
 
     /// The book of an id.
     pub fn book(&self, id: DomId) -> &Book
-        ensures { result.now ≡ book_at id self.now }
+        ensures value { result.now ≡ book_at id self.now }
+        ensures places { length self.now.list ≡ 64 }
     {
         &self.list[id.get() as usize]
     }
@@ -73,18 +76,11 @@ impl Ledger {
         self.list.iter().filter(|b| b.spare).count() as u32
     }
 
-    /// There is a book for each id.
-    pub fn sound(&self)
-        ensures { length self.now.list ≡ 64 }
+    /// The domain is at this stage of its line.
+    pub fn set_stage(&mut self, id: DomId, stage: Stage)
+        ensures { self.new ≡ put_book id (record (book_at id self.old) { stage = stage }) self.old }
     {
-        let _ = &self.list;
-    }
-
-    /// The domain has found that its write needs a copy.
-    pub fn copies(&mut self, id: DomId)
-        ensures { self.new ≡ put_book id (record (book_at id self.old) { copying = true }) self.old }
-    {
-        self.list[id.get() as usize].copying = true;
+        self.list[id.get() as usize].stage = stage;
     }
 
     /// The domain takes a spare frame.
@@ -94,44 +90,60 @@ impl Ledger {
         self.list[id.get() as usize].spare = true;
     }
 
-    /// The domain does one of the page steps of its clone.
-    pub fn step(&mut self, id: DomId)
-        requires { 0 < (book_at id self.old).left }
-        ensures { self.new ≡ put_book id (record (book_at id self.old) { left = (book_at id self.old).left - 1 }) self.old }
+    /// Makes so many new colours, which no page has.
+    pub fn widen(&mut self, n: u16) -> Result<(), NoMemory>
+        ensures ok { OnOk result (self.new ≡ record self.old { fresh = self.old.fresh + n }) }
+        ensures none { (c : ℕ) → self.old.fresh ≤ c → pages_of c self.old ≡ 0 }
+        ensures err { OnErr result (self.new ≡ self.old) }
     {
-        self.list[id.get() as usize].left -= 1;
+        self.palette.widen(n)
     }
 
-    /// A line of a domain was answered, and its spare became this. `pages` is the number of its pages.
-    pub fn settle(
-        &mut self,
-        id: DomId,
-        pages: u16,
-        spends: Spends,
-        reply: &Reply,
-    ) -> Result<(), NoMemory>
-        requires { IsThere spends (book_at id self.old) }
-        ensures ok { OnOk result ((d : Domain) → length d.pages ≡ pages → self.new ≡ books_after id d (book_at id self.old) spends reply.now self.old) }
-        ensures err { OnErr result (self.new ≡ self.old) }
+    /// Gives up the last n colours, which no page has.
+    pub fn narrow(&mut self, n: u16)
+        requires there { n ≤ self.old.fresh }
+        requires none { (c : ℕ) → self.old.fresh - n ≤ c → pages_of c self.old ≡ 0 }
+        ensures { self.new ≡ record self.old { fresh = self.old.fresh - n } }
+    {
+        self.palette.narrow(n);
+    }
+
+    /// A line of a domain was answered, its spare became this, and it is at this stage. The colour for a copy was made before.
+    pub fn settle(&mut self, id: DomId, spends: Spends, stage: Stage, reply: &Reply)
+        requires there { IsThere spends (book_at id self.old) }
+        requires wide { IsWide spends self.old.fresh }
+        ensures { (bs : Books) (o : Own) → self.old ≡ record bs { fresh = fresh_spent spends bs.fresh } → stage ≡ stage_after o reply.now → self.new ≡ books_after id o spends reply.now bs }
     {
         let alloc = *self.list.allocator();
         let book = &mut self.list[id.get() as usize];
-        spend(&mut self.palette, book, spends)?;
-        finish(alloc, &mut self.palette, book, pages, reply);
-        Ok(())
+        spend(&mut self.palette, book, spends);
+        finish(alloc, &mut self.palette, book, stage, reply);
     }
 
-    /// A clone is committed: the child's pages get the colours of its parent's, but for fresh ones of its identity page and device pages.
-    pub fn bear(&mut self, parent: DomId, child: DomId) -> Result<(), NoMemory>
-        requires { 4 ≤ length (book_at parent self.old).colours }
-        ensures ok { OnOk result (self.new ≡ born child (book_at parent self.old) self.old) }
-        ensures err { OnErr result (self.new ≡ self.old) }
+    /// The colours that a child of a domain with this own half will have.
+    pub fn heirloom(&self, parent: DomId, o: &Own) -> Result<Heirloom, NoMemory>
+        ensures colours { IfOk result (λ h. h.colours.items ≡ child_colours o.now 0 (book_at parent self.now).colours self.now.fresh) }
+        ensures new { IfOk result (λ h. h.new ≡ new_count o.now 0 (book_at parent self.now).colours) }
+        ensures given { IfOk result (λ h. All (λ c. c < self.now.fresh + h.new) h.colours.items) }
+        ensures few { IfOk result (λ h. length h.colours.items ≤ 1024) }
     {
         let alloc = *self.list.allocator();
-        let colours = Vec::from_slice(alloc, self.list[parent.get() as usize].colours.items())?;
-        let fresh = self.palette.four_fresh()?;
-        let book = &mut self.list[child.get() as usize];
-        inherit(&mut self.palette, book, colours, fresh);
-        Ok(())
+        let colours = self.list[parent.get() as usize].colours.items();
+        child_heirloom(alloc, o, colours, self.palette.size())
+    }
+
+    /// A clone is committed: the child's pages have these colours, of which the new ones were made before, and its parent goes on.
+    pub fn bear(&mut self, parent: DomId, child: DomId, heirloom: Heirloom)
+        requires apart { child ≢ parent }
+        requires few { length heirloom.colours.items ≤ 1024 }
+        requires given { All (λ c. c < self.old.fresh) heirloom.colours.items }
+        ensures { (bs : Books) (o : Own) → self.old ≡ record bs { fresh = bs.fresh + new_count o 0 (book_at parent bs).colours } → heirloom.colours.items ≡ child_colours o 0 (book_at parent bs).colours bs.fresh → self.new ≡ books_committed parent o (Child child) bs }
+    {
+        inherit(
+            &mut self.palette,
+            &mut self.list[child.get() as usize],
+            heirloom.colours,
+        );
+        self.set_stage(parent, Stage::Ready);
     }
 }

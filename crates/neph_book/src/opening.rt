@@ -7,7 +7,7 @@ ghost use Rattle.neph_book.specs.Kept.{times};
 
 use crate::palette::Palette;
 use neph_base::NoMemory;
-use neph_model::{Book, Colours, Start};
+use neph_model::{Book, Colours, Stage, Start};
 use std::alloc::Global;
 
 /// The books of starting domains, from the id 1 on, whose pages get fresh colours.
@@ -46,8 +46,7 @@ pub fn of_colours(colours: Vec<u32>) -> Book
     ensures { result ≡ book_of colours.items }
 {
     Book {
-        left: 0,
-        copying: false,
+        stage: Stage::Ready,
         spare: false,
         colours: Colours::of(colours),
     }

@@ -1,5 +1,5 @@
 // How many pages have each colour.
-ghost use Rattle.std.specs.Prelude.{◌≡◌, ◌+◌, ◌<◌, ◌≤◌, ◌^◌, ℕ, length, count_by, nat_lt, slice_index, IfOk, OnOk, OnErr, [], replicate};
+ghost use Rattle.std.specs.Prelude.{◌≡◌, ◌+◌, ◌<◌, ◌≤◌, ◌^◌, ℕ, ◌-◌, length, count_by, nat_lt, slice_index, All, IfOk, OnOk, OnErr, []};
 ghost use Rattle.neph_book.specs.Kept.{one_at, times};
 
 use neph_base::NoMemory;
@@ -52,7 +52,7 @@ impl Palette {
         self.used
     }
 
-    /// A colour that no page has had, for one page. Past 2^32 - 1 colours memory is said to be out.
+    /// A colour that no page has had, for one page.
     pub fn fresh(&mut self) -> Result<u32, NoMemory>
         ensures colour { IfOk result (λ colour. colour ≡ length self.old) }
         ensures length { OnOk result (length self.new ≡ length self.old + 1) }
@@ -70,23 +70,44 @@ impl Palette {
         Ok(colour)
     }
 
-    /// Four colours in a row that no page has had, for one page each, the first of which is answered.
-    pub fn four_fresh(&mut self) -> Result<u32, NoMemory>
-        ensures colour { IfOk result (λ colour. colour ≡ length self.old) }
-        ensures small { IfOk result (λ colour. colour + 4 < 2 ^ 32) }
-        ensures length { OnOk result (length self.new ≡ length self.old + 4) }
-        ensures counts { IfOk result (λ colour. (c : ℕ) → slice_index self.new c ≡ slice_index self.old c + one_at colour c + one_at (colour + 1) c + one_at (colour + 2) c + one_at (colour + 3) c) }
+    /// So many more colours, which no page has. Past 2^32 - 1 colours memory is said to be out.
+    pub fn widen(&mut self, n: u16) -> Result<(), NoMemory>
+        ensures length { OnOk result (length self.new ≡ length self.old + n) }
+        ensures counts { (c : ℕ) → slice_index self.new c ≡ slice_index self.old c }
         ensures err { OnErr result (self.new ≡ self.old) }
     {
-        let Ok(colour) = u32::try_from(self.holders.len()) else {
-            return Err(NoMemory);
-        };
-        if colour > u32::MAX - 4 {
+        let size = self.holders.len() + n as usize;
+        if size > u32::MAX as usize {
             return Err(NoMemory);
         }
-        self.holders.extend_from_slice(&[1, 1, 1, 1])?;
-        self.used += 4;
-        Ok(colour)
+        self.holders.resize(size, 0)?;
+        Ok(())
+    }
+
+    /// Without the last n colours, which no page has.
+    pub fn narrow(&mut self, n: u16)
+        requires there { n ≤ length self.old }
+        requires none { (c : ℕ) → length self.old - n ≤ c → slice_index self.old c ≡ 0 }
+        ensures length { length self.new ≡ length self.old - n }
+        ensures counts { (c : ℕ) → slice_index self.new c ≡ slice_index self.old c }
+    {
+        let size = self.holders.len() - n as usize;
+        self.holders.truncate(size);
+    }
+
+    /// How many colours were made.
+    pub fn size(&self) -> u32
+        ensures { result ≡ length self.now }
+    {
+        self.holders.len() as u32
+    }
+
+    /// The colour that was made last.
+    pub fn last(&self) -> u32
+        requires { 0 < length self.now }
+        ensures { result ≡ length self.now - 1 }
+    {
+        self.holders.len() as u32 - 1
     }
 
     /// One more page has a colour.
@@ -121,7 +142,7 @@ impl Palette {
 
 /// One more page has each of these colours.
 pub fn join_all(palette: &mut Palette, colours: &[u32])
-    requires given { (c : ℕ) → times c colours.now ≤ slice_index palette.old c }
+    requires given { All (λ c. c < length palette.old) colours.now }
     requires room { (c : ℕ) → slice_index palette.old c + length colours.now < 2 ^ 32 }
     ensures length { length palette.new ≡ length palette.old }
     ensures counts { (c : ℕ) → slice_index palette.new c ≡ slice_index palette.old c + times c colours.now }

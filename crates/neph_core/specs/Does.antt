@@ -1,14 +1,17 @@
 -- What code that takes turns has done, by the definitions.
-use Rattle.std.specs.Prelude.{◌≡◌, ◌++◌, ℕ, Bool, false, Option, None, Some, length, ⊤}
-use Rattle.neph_base.specs.declared.reply.Entry.{Entry}
+use Rattle.std.specs.Prelude.{◌≡◌, ◌++◌, ℕ, Bool, true, Result, Ok, Err, ⊤}
+use Rattle.neph_base.specs.declared.reply.Entry.TheVariants.{Line, Commit}
+use Rattle.neph_base.specs.declared.memory.NoMemory.{NoMemory}
 use Rattle.neph_base.specs.declared.reply.Reply.{Reply}
-use Rattle.neph_model.specs.declared.domain.Domain.{Domain}
+use Rattle.neph_base.specs.declared.reply.Reply.TheVariants.{Begun}
 use Rattle.neph_model.specs.declared.book.Book.{Book}
 use Rattle.neph_model.specs.declared.book.Move.{Move}
-use Rattle.neph_model.specs.declared.book.Move.TheVariants.{Copies, TakesSpare, Does as DoesLine}
-use Rattle.neph_model.specs.declared.told.Told.{Told}
-use Rattle.neph_model.specs.Machine.{Machine, domain_at}
-use Rattle.neph_model.specs.Step.{entry_step, is_paused}
+use Rattle.neph_model.specs.declared.book.Move.TheVariants.{Commits, Does as DoesLine}
+use Rattle.neph_model.specs.declared.script.Script.{Script}
+use Rattle.neph_model.specs.declared.own.Own.{Own}
+use Rattle.neph_model.specs.Machine.{Machine, own_at, is_live}
+use Rattle.neph_model.specs.Books.{shared_count}
+use Rattle.neph_model.specs.Step.{is_due}
 use Rattle.neph_model.specs.Turns.{Done}
 use Rattle.neph_book.specs.Kept.{IsThere}
 use Rattle.neph_core.specs.Course.{Course}
@@ -20,40 +23,23 @@ pub record Does (old new : Course) (done : Done) (moved : Bool) : Type 0 where
   pub history : new.history ≡ old.history ++ done.noted
   pub told : moved ≡ done.moved
 
--- an entry was done on the machine, with this reply
-pub record Steps (old new : Course) (e : Entry) (told : Told) (r : Reply) : Type 0 where
-  pub script : new.script ≡ old.script
-  pub step : entry_step old.script old.state.machine e told ≡ Some (record { machine = new.state.machine; reply = r })
-  pub books : new.state.books ≡ old.state.books
-  pub history : new.history ≡ old.history
-
--- it wasn't the next one of its actor, and nothing changed
-pub record Skips (old new : Course) (e : Entry) (told : Told) : Type 0 where
-  pub step : entry_step old.script old.state.machine e told ≡ None
-  pub same : new ≡ old
-
-abbrev pub StepsNext : Course → Course → Entry → Told → Option Reply → Type 0
-StepsNext old new e told (Some r) = Steps old new e told r
-StepsNext old new e told None = Skips old new e told
-
--- a domain at this line has begun this clone
-pub record Clones (m : Machine) (id line child : ℕ) : Type 0 where
-  pub d : Domain
-  pub at : domain_at id m ≡ Some d
-  pub line_is : d.line ≡ line
-  pub begun : d.begun ≡ Some child
-
--- a domain with this many pages does its line, which is this
-pub record Runs (m : Machine) (id line pages : ℕ) : Type 0 where
-  pub d : Domain
-  pub at : domain_at id m ≡ Some d
-  pub line_is : d.line ≡ line
-  pub pages_is : length d.pages ≡ pages
-  pub begun : d.begun ≡ None
-  pub paused : is_paused id m ≡ false
+-- a turn did this, unless memory ran out, which changed nothing
+abbrev pub DoesOrLacks : Course → Course → Done → Result Bool NoMemory → Type 0
+DoesOrLacks old new done (Ok moved) = Does old new done moved
+DoesOrLacks old new done (Err lacks) = new ≡ old
 
 -- a page that is to be copied is there
 abbrev pub CanMove : Move → Book → Type 0
-CanMove Copies b = ⊤
-CanMove TakesSpare b = ⊤
 CanMove (DoesLine told spends) b = IsThere spends b
+CanMove _ b = ⊤
+
+-- the entry of a move at this line is due
+abbrev pub IsDueFor : Script → Machine → ℕ → ℕ → Move → Type 0
+IsDueFor s m id line Commits = is_due s m (Commit id line) ≡ true
+IsDueFor s m id line (DoesLine told spends) = is_due s m (Line id line) ≡ true
+IsDueFor s m id line _ = ⊤
+
+-- where a clone was begun, its domain is live and shares as many pages as with this own half
+abbrev pub SharesAs : Machine → ℕ → Own → Reply → Type 0
+SharesAs m id o (Begun child) = (is_live id m.shared.lives ≡ true) × (shared_count (own_at id m.own) ≡ shared_count o)
+SharesAs m id o _ = ⊤

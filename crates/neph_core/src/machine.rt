@@ -1,19 +1,17 @@
 // The machine of a run.
-ghost use Rattle.std.specs.Prelude.{◌≡◌, ◌≤◌, IfOk, [], None};
-ghost use Rattle.neph_model.specs.Lawful.{IsLawful};
-ghost use Rattle.neph_model.specs.Machine.{domain_at, is_over};
+ghost use Rattle.std.specs.Prelude.{◌≡◌, IfOk, []};
+ghost use Rattle.neph_model.specs.WellFormed.{IsWellFormed};
+ghost use Rattle.neph_model.specs.Machine.{is_over};
 ghost use Rattle.neph_model.specs.Books.{counts, start_state};
 ghost use Rattle.neph_model.specs.Turns.{turn};
-ghost use Rattle.neph_print.specs.Parts.{shown};
-ghost use Rattle.neph_core.specs.Does.{Does};
-ghost use Rattle.neph_core.specs.Plays.{IsReady};
+ghost use Rattle.neph_core.specs.Course.{IsSound};
+ghost use Rattle.neph_core.specs.Does.{DoesOrLacks};
 
 use crate::parts::Parts;
 use neph_base::{Actor, NoMemory, Noted};
 use neph_book::Ledger;
 use neph_flat::Plain;
-use neph_model::Script;
-use neph_print::FrameCounts;
+use neph_model::{FrameCounts, Script};
 use std::alloc::Global;
 use std::marker::Model;
 
@@ -21,31 +19,29 @@ use std::marker::Model;
 #[derive(Drop)]
 pub struct Machine {
     parts: Parts,
-    // Whether memory ran out in the middle of a turn. Then no further turn is made.
-    spoiled: bool,
 }
 
 impl Model for Machine {
-    ghost use Rattle.std.specs.Prelude.{◌≡◌, false};
-    ghost use Rattle.neph_core.specs.Course.{Course};
+    ghost use Rattle.neph_core.specs.Course.{Course, IsSound};
     ghost use Rattle.neph_core.specs.Kept.{course};
-    ghost use Rattle.neph_model.specs.Books.{IsColoured};
-    ghost use Rattle.neph_model.specs.contracts.domain.Domain as domain;
-    ghost use Rattle.std.specs.Coded.{codes};
+    ghost use Rattle.neph_model.specs.contracts.own.Own as own;
+    ghost use Rattle.std.specs.Coded.{codes, coded_ℕ, coded_list};
+    ghost use Rattle.std.specs.FinMap as map;
+    ghost use Rattle.std.specs.Ordering.{nat_cmp};
 
     ghost Value = { Course };
 
-    ghost coded = { Prim.hlevel (codes, domain.the_row.coded) };
+    ghost coded = { Prim.hlevel (codes, own.the_row.coded, map.code {R = nat_cmp} coded_ℕ (coded_list coded_ℕ)) };
 
     ghost view = { λ a. course a.parts };
 
-    ghost invariant = { λ a. a.spoiled ≡ false → IsColoured (course a.parts).state };
+    ghost invariant = { λ a. IsSound (course a.parts) };
 }
 
 impl Machine {
     /// The machine at the start of a script.
     pub fn new(alloc: Global, s: &Script) -> Result<Machine, NoMemory>
-        requires { IsLawful s.now }
+        requires { IsWellFormed s.now }
         ensures script { IfOk result (λ m. m.script ≡ s.now) }
         ensures state { IfOk result (λ m. m.state ≡ start_state s.now) }
         ensures history { IfOk result (λ m. m.history ≡ []) }
@@ -56,32 +52,21 @@ impl Machine {
                 ledger: Ledger::open(alloc, s.starts.items())?,
                 history: Vec::new(alloc),
             },
-            spoiled: false,
         })
     }
 
-    /// A turn of an actor. Tells whether it did anything. After want of memory in one turn each further one answers that.
+    /// A turn of an actor. Tells whether it did anything. Where memory runs out the machine is as before.
     pub fn turn(&mut self, a: Actor) -> Result<bool, NoMemory>
-        ensures { IfOk result (Does self.old self.new (turn self.old.script self.old.state a)) }
+        ensures { DoesOrLacks self.old self.new (turn self.old.script self.old.state a) result }
     {
-        if self.spoiled {
-            return Err(NoMemory);
-        }
-        self.parts.plain.sound();
-        self.parts.ledger.sound();
-        self.spoiled = true;
-        let moved = self.parts.turn(a)?;
-        self.spoiled = false;
-        Ok(moved)
+        self.parts.turn(a)
     }
 
     /// Whether no domain is live.
     pub fn is_over(&self) -> bool
         ensures over { result ≡ is_over self.now.state.machine }
-        ensures ready { IsReady self.now }
+        ensures sound { IsSound self.now }
     {
-        self.parts.plain.sound();
-        self.parts.ledger.sound();
         self.parts.plain.is_over()
     }
 
@@ -94,7 +79,7 @@ impl Machine {
 
     /// What its frames are used for.
     pub fn counts(&self) -> FrameCounts
-        ensures { result ≡ shown (counts self.now.script self.now.state) }
+        ensures { result ≡ counts self.now.script self.now.state }
     {
         self.parts.counts()
     }

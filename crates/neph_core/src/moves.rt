@@ -1,34 +1,71 @@
-// What a domain does in its turn, by its line, its book and the free frames.
-ghost use Rattle.std.specs.Prelude.{◌≡◌, ◌/◌, ◌-◌, ◌+◌, ◌<◌, length, IfSome, Some};
+// What a live domain does in its turn, by its stage, its line and the free frames.
+ghost use Rattle.std.specs.Prelude.{◌≡◌, ◌+◌, ◌-◌, ◌<◌, length, IfSome, Option, Some};
 ghost use Rattle.std.specs.FinMap as map;
-ghost use Rattle.neph_model.specs.Machine.{domain_at};
-ghost use Rattle.neph_model.specs.Step.{next_command};
-ghost use Rattle.neph_model.specs.Books.{IsColoured, free, counts, book_at};
-ghost use Rattle.neph_model.specs.Turns.{next_move, write_move, with_frame, page_to_copy};
-ghost use Rattle.neph_flat.specs.Sound.{IsShown};
-ghost use Rattle.neph_print.specs.Parts.{shown};
+ghost use Rattle.neph_model.specs.declared.memory.Mapping.{Mapping};
+ghost use Rattle.neph_model.specs.Own.{mapping_at};
+ghost use Rattle.neph_model.specs.Books.{free, counts, book_at};
+ghost use Rattle.neph_model.specs.Turns.{next_move, copying_move, ready_move, with_frame, page_to_copy};
+ghost use Rattle.neph_flat.specs.Flat.{live_own};
+ghost use Rattle.neph_flat.specs.Sound.{IsMapped};
 ghost use Rattle.neph_core.specs.Kept.{course};
 ghost use Rattle.neph_core.specs.Does.{CanMove};
 
 use crate::parts::Parts;
 use neph_base::{Command, DomId, Mode, Pfn, VAddr};
-use neph_model::{Book, Domain, Move, Spends, Told};
-use neph_print::FrameCounts;
+use neph_model::{Book, FrameCounts, Move, Own, Spends, Stage, Told};
 
 impl Parts {
-    /// What a domain that is neither cloning nor paused does in its turn.
-    pub fn next_move(&self, id: DomId, d: &Domain) -> Move
-        requires live { domain_at id (course self.now).state.machine ≡ Some d.now }
-        requires coloured { IsColoured (course self.now).state }
-        ensures value { result ≡ next_move (free (course self.now).script (course self.now).state) (course self.now).state.books d.now (book_at id (course self.now).state.books) (next_command (course self.now).script d.now) }
+    /// What a live domain does in its turn.
+    pub fn next_move(&self, id: DomId, o: &Own) -> Move
+        requires live { live_own id (course self.now).state.machine ≡ Some o.now }
+        requires mapped { IsMapped o.now }
+        requires coloured { length (book_at id (course self.now).state.books).colours ≡ length o.now.pages }
+        ensures value { result ≡ next_move (course self.now).script (course self.now).state id }
         ensures there { CanMove result (book_at id (course self.now).state.books) }
     {
-        self.plain.sound();
         let book = self.ledger.book(id);
-        match self.plain.command(d) {
-            Command::W { addr, .. } => self.write_move(book, d, addr),
+        match book.stage {
+            Stage::Forking(0) => Move::Commits,
+            Stage::Forking(_) => Move::StepsPage,
+            _ if self.plain.is_paused(id) => Move::Rests,
+            Stage::Copying => self.copying_move(book, o, self.plain.command(id)),
+            Stage::Ready => self.ready_move(book, o, self.plain.command(id)),
+        }
+    }
+
+    // A domain that has found that its write needs a copy.
+    fn copying_move(&self, book: &Book, o: &Own, command: Command) -> Move
+        requires mapped { IsMapped o.now }
+        requires coloured { length book.now.colours ≡ length o.now.pages }
+        ensures value { result ≡ copying_move (free (course self.now).script (course self.now).state) (course self.now).state.books o.now book.now command }
+        ensures there { CanMove result book.now }
+    {
+        let Command::W { addr, .. } = command else {
+            return DOES;
+        };
+        match self.page_to_copy(book, o, addr) {
+            None => DOES,
+            Some(pfn) => self.with_frame(book, Spends::Copy(pfn)),
+        }
+    }
+
+    // A domain that is ready for this command.
+    fn ready_move(&self, book: &Book, o: &Own, command: Command) -> Move
+        requires mapped { IsMapped o.now }
+        requires coloured { length book.now.colours ≡ length o.now.pages }
+        ensures value { result ≡ ready_move (free (course self.now).script (course self.now).state) (course self.now).state.books o.now book.now command }
+        ensures there { CanMove result book.now }
+    {
+        match command {
+            Command::W { addr, .. } => {
+                if self.page_to_copy(book, o, addr).is_some() {
+                    Move::Copies
+                } else {
+                    DOES
+                }
+            }
             Command::Map { vpn, pfn, mode } => {
-                if d.is_bad_pfn(pfn, mode) || d.has_leaf(vpn) {
+                if o.is_bad_pfn(pfn, mode) || o.has_leaf(vpn) {
                     DOES
                 } else {
                     self.with_frame(book, Spends::Leaf)
@@ -42,34 +79,24 @@ impl Parts {
         }
     }
 
-    // A write: one that must copy its page finds that out in a turn of its own.
-    fn write_move(&self, book: &Book, d: &Domain, addr: VAddr) -> Move
-        requires shown { IsShown d.now }
-        requires coloured { length book.now.colours ≡ length d.now.pages }
-        ensures value { result ≡ write_move (free (course self.now).script (course self.now).state) book.now (page_to_copy (course self.now).state.books book.now (map.get d.now.vmap (addr / 4096))) }
-        ensures there { CanMove result book.now }
-    {
-        match self.page_to_copy(book, d, addr) {
-            None => DOES,
-            Some(pfn) if book.copying => self.with_frame(book, Spends::Copy(pfn)),
-            Some(_) => Move::Copies,
-        }
-    }
-
-    // The page that a write at an address must copy: one that may be written there, and has the colour of another page too.
-    fn page_to_copy(&self, book: &Book, d: &Domain, addr: VAddr) -> Option<Pfn>
-        requires shown { IsShown d.now }
-        requires coloured { length book.now.colours ≡ length d.now.pages }
-        ensures value { result ≡ page_to_copy (course self.now).state.books book.now (map.get d.now.vmap (addr / 4096)) }
+    // The page that a write at an address must copy: one of the domain's own that may be written there, of a colour that another page has too.
+    fn page_to_copy(&self, book: &Book, o: &Own, addr: VAddr) -> Option<Pfn>
+        requires mapped { IsMapped o.now }
+        requires coloured { length book.now.colours ≡ length o.now.pages }
+        ensures value { result ≡ page_to_copy (course self.now).state.books o.now book.now (mapping_at o.now addr) }
         ensures there { IfSome result (λ pfn. pfn < length book.now.colours) }
     {
-        let shown = d.vmap.get(addr.vpn())?;
-        if shown.mode == Mode::Ro {
+        let to = o.vmap.get(addr.vpn().get())?;
+        if to.mode == Mode::Ro {
             return None;
         }
-        let colour = book.colours.items()[shown.pfn.get() as usize];
-        if self.ledger.is_shared(colour) {
-            Some(shown.pfn)
+        let pfn = to.pfn;
+        let page = pfn.get() as usize;
+        if o.pages.items()[page].is_none() {
+            return None;
+        }
+        if self.ledger.is_shared(book.colours.items()[page]) {
+            Some(pfn)
         } else {
             None
         }
@@ -96,7 +123,7 @@ impl Parts {
 
     /// What the frames of the machine are used for.
     pub fn counts(&self) -> FrameCounts
-        ensures { result ≡ shown (counts (course self.now).script (course self.now).state) }
+        ensures { result ≡ counts (course self.now).script (course self.now).state }
     {
         let total = self.plain.frames();
         let colours = self.ledger.colours();

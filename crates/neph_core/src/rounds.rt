@@ -1,6 +1,6 @@
 // The run of a script by turns, to its end.
 ghost use Rattle.std.specs.Prelude.{◌≡◌, ◌<◌, IfOk};
-ghost use Rattle.neph_model.specs.Lawful.{IsLawful};
+ghost use Rattle.neph_model.specs.WellFormed.{IsWellFormed};
 ghost use Rattle.neph_model.specs.Turns.{turns, round};
 ghost use Rattle.neph_core.specs.Does.{Does};
 ghost use Rattle.neph_core.specs.Plays.{Plays};
@@ -10,18 +10,35 @@ use neph_base::{Actor, DomId, NoMemory};
 use neph_model::Script;
 use std::alloc::Global;
 
-/// Runs a script by turns: those that it gives, and then rounds, until no domain is live.
-pub fn play(alloc: Global, s: &Script) -> Result<Machine, NoMemory>
-    requires { IsLawful s.now }
-    ensures { IfOk result (Plays s.now) }
+/// A run at its end.
+#[derive(Drop)]
+pub struct Played {
+    /// The machine.
+    pub machine: Machine,
+    /// Whether the run stalled; else no domain is live.
+    pub stalled: bool,
+}
+
+/// Runs a script by turns: those that it gives, and then rounds, until no domain is live or a round does nothing.
+pub fn play(alloc: Global, s: &Script) -> Result<Played, NoMemory>
+    requires { IsWellFormed s.now }
+    ensures { IfOk result (λ p. Plays s.now p.machine p.stalled) }
 {
     let mut machine = Machine::new(alloc, s)?;
     let _first = take_turns(&mut machine, s.turns.items())?;
     let round = round_actors(alloc)?;
     'rounds: while !machine.is_over() {
-        let _moved = take_turns(&mut machine, &round)?;
+        if !take_turns(&mut machine, &round)? {
+            return Ok(Played {
+                machine,
+                stalled: true,
+            });
+        }
     }
-    Ok(machine)
+    Ok(Played {
+        machine,
+        stalled: false,
+    })
 }
 
 // The turns of these actors in order, until no domain is live. Tells whether one did anything.

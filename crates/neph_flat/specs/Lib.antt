@@ -1,4 +1,6 @@
 pub mod Flat
+pub mod Pages
 pub mod Sound
-pub mod Slots
-pub mod Did
+pub mod Local
+pub mod Answers
+pub mod Halves

@@ -1,49 +1,36 @@
--- What the machine of a script keeps.
-use Rattle.std.specs.Prelude.{ℕ, ◌≡◌, ◌+◌, ◌<◌, ◌≤◌, All, length, IfSome, Option, None, slice_index_or}
+-- What the plain machine keeps.
+use Rattle.std.specs.Prelude.{ℕ, ◌≡◌, ◌+◌, ◌<◌, ◌≤◌, true, length, IfSome}
 use Rattle.std.specs.FinMap as map
 use Rattle.neph_model.specs.declared.script.Script.{Script}
-use Rattle.neph_model.specs.declared.domain.Domain.{Domain}
-use Rattle.neph_model.specs.declared.domain.Cloned.{Cloned}
-use Rattle.neph_model.specs.Machine.{Machine}
-use Rattle.neph_model.specs.Lawful.{IsLawful}
+use Rattle.neph_model.specs.declared.memory.Mapping.{Mapping}
+use Rattle.neph_model.specs.declared.life.Guest.{Guest}
+use Rattle.neph_model.specs.declared.own.Own.{Own}
+use Rattle.neph_model.specs.Machine.{Machine, own_at, is_live, guest_at}
+use Rattle.neph_model.specs.Laws.{IsApart}
+use Rattle.neph_model.specs.WellFormed.{IsWellFormed}
 
--- each page that is shown is there
-abbrev pub IsShown : Domain → Type 0
-IsShown d = (v : ℕ) → IfSome (map.get d.vmap v) (λ shown. shown.pfn < length d.pages)
+-- each virtual page maps to a page that is there
+abbrev pub IsMapped : Own → Type 0
+IsMapped o = (v : ℕ) → IfSome (map.get o.vmap v) (λ (to : Mapping). to.pfn < length o.pages)
 
--- an id that a guest may have
-abbrev pub IsGuestId : ℕ → Type 0
-IsGuestId id = (0 < id) × (id < 64)
+-- the own half of a live domain: its pages are there, and its line and its tables are within their bounds
+pub record IsSoundOwn (o : Own) : Type 0 where
+  pub pages_low : 8 ≤ length o.pages
+  pub pages_high : length o.pages ≤ 1024
+  pub mapped : IsMapped o
+  pub alone : length o.alone ≡ length o.pages
+  pub line : o.line ≤ 512
+  pub leaves : length o.leaves ≤ 2 + o.line
 
--- the domain of this id: its pages are there, and its line, its tables, its clones and its program are within their bounds
-pub record IsSoundDomain (s : Script) (id : ℕ) (d : Domain) : Type 0 where
-  pub named : d.id ≡ id
-  pub guest : 0 < id
-  pub shown : IsShown d
-  pub pages_low : 8 ≤ length d.pages
-  pub pages_high : length d.pages ≤ 1024
-  pub line : d.line ≤ 512
-  pub leaves : length d.leaves ≤ 2 + d.line
-  pub limit : d.limit ≤ 62
-  pub accepted : d.accepted ≤ d.limit
-  pub program : d.program < length s.programs
-  pub child : IfSome d.begun IsGuestId
-  pub cloning : IfSome d.begun (λ _. d.line < 512)
+-- a live domain with this own half, of which that is kept: each commit of a clone that it has begun leaves it within its program
+pub record IsSoundDomain (o : Own) (g : Guest) : Type 0 where
+  pub own : IsSoundOwn o
+  pub commits : o.line + length g.begun ≤ 512
 
--- a domain that may be live has at most this many leaf tables
-abbrev pub HasFewLeaves : Option Domain → Type 0
-HasFewLeaves o = IfSome o (λ d. length d.leaves ≤ 514)
-
--- parent and child of a clone have ids
-abbrev pub IsPair : Cloned → Type 0
-IsPair w = (w.parent < 64) × (w.child < 64)
-
--- the script can be spelled, each id from 0 to 63 has a place, what stands there is a domain of that id, and no id above 63 is given
+-- each id from 0 to 63 has a place, each page is in one half alone, and each live domain is sound
 pub record IsSound (s : Script) (m : Machine) : Type 0 where
-  pub lawful : IsLawful s
-  pub slots : length m.domains ≡ 64
-  pub each : (id : ℕ) → IfSome (slice_index_or m.domains id None) (IsSoundDomain s id)
-  pub first : slice_index_or m.domains 0 None ≡ None
-  pub next_low : 0 < m.next
-  pub next_high : m.next ≤ 64
-  pub waiting : All IsPair m.waiting
+  pub formed : IsWellFormed s
+  pub places : length m.own ≡ 64
+  pub exposed : length m.shared.pages ≡ 64
+  pub apart : IsApart m
+  pub each : (id : ℕ) → is_live id m.shared.lives ≡ true → IsSoundDomain (own_at id m.own) (guest_at id m.shared.tables)

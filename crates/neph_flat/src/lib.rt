@@ -1,16 +1,19 @@
 //! The plain machine as a program.
 #![tactic(auto)]
 
+mod call;
 mod child;
-mod clone;
 mod counts;
+mod end;
+mod flat_pages;
+mod halves;
 mod jump;
+mod local;
 mod memory;
-mod obey;
+mod page_map;
 mod plain;
-mod slots;
 mod start;
 
-pub use neph_model::{Script, Told};
+pub use end::FlatEnd;
+pub use neph_model::{Own, Script, Told};
 pub use plain::Plain;
-pub use slots::FlatEnd;

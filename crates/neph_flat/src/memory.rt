@@ -1,96 +1,99 @@
-// What a command does to the memory of its domain.
-ghost use Rattle.std.specs.Prelude.{◌≡◌, ◌+◌, ◌/◌, ◌%◌, ◌≤◌, ◌<◌, length, IfOk, ◌++◌, ◌∷◌, []};
+// What a command does to the memory of its domain, by itself.
+ghost use Rattle.std.specs.Prelude.{◌≡◌, ◌+◌, ◌/◌, ◌%◌, ◌≤◌, ◌<◌, length, IfOk, OnOk, OnErr, ◌++◌, ◌∷◌, []};
 ghost use Rattle.std.specs.FinMap as map;
-ghost use Rattle.neph_model.specs.Step.{written, bytes_read, mapped, unmapped};
-ghost use Rattle.neph_flat.specs.Sound.{IsShown};
-ghost use Rattle.neph_flat.specs.Did.{Did, DidOrLacks};
+ghost use Rattle.neph_model.specs.Own.{w_step, r_step, map_step, unmap_step, mapping_at};
+ghost use Rattle.neph_flat.specs.Sound.{IsMapped};
+ghost use Rattle.neph_flat.specs.Local.{RowDone, RowDoneOrLacks};
 
-use neph_base::{Mode, NoMemory, Pfn, Piece, Refusal, Reply, VAddr, Vpn};
-use neph_model::{Domain, Leaves, Mapping, Told};
+use neph_base::{Mode, NoMemory, Pfn, Piece, Refusal, Reply, TryClone, VAddr, Vpn};
+use neph_model::{Leaves, Mapping, Own, Told};
+
+/// What a command comes to by itself: nothing where the hypervisor has to be asked.
+pub type Row = Option<Result<Reply, Refusal>>;
 
 /// Writes bytes at an address.
-pub fn write(d: &mut Domain, told: Told, addr: VAddr, bytes: &Piece) -> Result<Reply, Refusal>
+pub fn write(o: &mut Own, told: Told, addr: VAddr, bytes: &Piece) -> Row
     requires fits { addr % 4096 + length bytes.now ≤ 4096 }
-    requires shown { IsShown d.old }
-    ensures did { Did d.old d.new result (written d.old told (addr % 4096) bytes.now (map.get d.old.vmap (addr / 4096))) }
-    ensures line { d.new.line ≡ d.old.line }
+    requires mapped { IsMapped o.old }
+    requires alone { length o.old.alone ≡ length o.old.pages }
+    ensures line { o.new.line ≡ o.old.line }
+    ensures did { RowDone o.old o.new result (w_step o.old told (addr % 4096) bytes.now (mapping_at o.old addr)) }
 {
-    let Some(shown) = d.vmap.get(addr.vpn()) else {
-        return Err(Refusal::Unmapped);
+    let Some(to) = o.vmap.get(addr.vpn().get()) else {
+        return Some(Err(Refusal::Unmapped));
     };
-    match (shown.mode, told) {
-        (Mode::Ro, _) => Err(Refusal::ReadOnly),
-        (Mode::Rw, Told::Short) => Err(Refusal::NoFrame),
+    let page = to.pfn.get() as usize;
+    if o.pages.items()[page].is_none() {
+        return None;
+    }
+    match (to.mode, told) {
+        (Mode::Ro, _) => Some(Err(Refusal::ReadOnly)),
+        (Mode::Rw, Told::Short) => None,
         (Mode::Rw, _) => {
-            let page = shown.pfn.get() as usize;
-            d.pages.write(page, addr.offset(), bytes.bytes());
-            Ok(Reply::Done)
+            o.pages.write(page, addr.offset(), bytes.bytes());
+            o.alone.set(page, true);
+            Some(Ok(Reply::Done))
         }
     }
 }
 
 /// Reads bytes at an address.
-pub fn read(d: &Domain, addr: VAddr, len: u8) -> Result<Reply, Refusal>
+pub fn read(o: &Own, addr: VAddr, len: u8) -> Row
     requires some { 0 < len }
     requires few { len ≤ 64 }
     requires fits { addr % 4096 + len ≤ 4096 }
-    requires shown { IsShown d.now }
-    ensures { Did d.now d.now result (bytes_read d.now (addr % 4096) len (map.get d.now.vmap (addr / 4096))) }
+    requires mapped { IsMapped o.now }
+    ensures { RowDone o.now o.now result (r_step o.now (addr % 4096) len (mapping_at o.now addr)) }
 {
-    let Some(shown) = d.vmap.get(addr.vpn()) else {
-        return Err(Refusal::Unmapped);
+    let Some(to) = o.vmap.get(addr.vpn().get()) else {
+        return Some(Err(Refusal::Unmapped));
+    };
+    let Some(page) = &o.pages.items()[to.pfn.get() as usize] else {
+        return None;
     };
     let from = addr.offset();
-    let page = d.pages.items()[shown.pfn.get() as usize].bytes();
-    let piece = Piece::new(&page[from..from + len as usize]).unwrap();
-    Ok(Reply::Bytes(piece))
+    let piece = Piece::new(&page.bytes()[from..from + len as usize]).unwrap();
+    Some(Ok(Reply::Bytes(piece)))
 }
 
-/// Lets a virtual page show a page, in place of what it showed.
-pub fn map(
-    d: &mut Domain,
-    told: Told,
-    vpn: Vpn,
-    pfn: Pfn,
-    mode: Mode,
-) -> Result<Result<Reply, Refusal>, NoMemory>
-    ensures did { DidOrLacks d.old d.new result (mapped d.old told vpn pfn mode) }
-    ensures line { d.new.line ≡ d.old.line }
+/// Lets a virtual page map to a page, in place of what it mapped to.
+pub fn map(o: &mut Own, told: Told, vpn: Vpn, pfn: Pfn, mode: Mode) -> Result<Row, NoMemory>
+    ensures line { o.new.line ≡ o.old.line }
+    ensures did { RowDoneOrLacks o.old o.new result (map_step o.old told vpn pfn mode) }
 {
-    if d.is_bad_pfn(pfn, mode) {
-        return Ok(Err(Refusal::BadPfn));
+    if o.is_bad_pfn(pfn, mode) {
+        return Ok(Some(Err(Refusal::BadPfn)));
     }
     let to = Mapping { pfn, mode };
-    if d.has_leaf(vpn) {
-        d.vmap.insert(vpn, to)?;
-        return Ok(Ok(Reply::Done));
+    if o.has_leaf(vpn) {
+        o.vmap.insert(vpn.get(), to)?;
+        return Ok(Some(Ok(Reply::Done)));
     }
     if matches!(told, Told::Short) {
-        return Ok(Err(Refusal::NoFrame));
+        return Ok(None);
     }
-    let leaves = with_leaf(&d.leaves, (vpn.get() / 512) as u16)?;
-    d.vmap.insert(vpn, to)?;
-    d.leaves = leaves;
-    Ok(Ok(Reply::Done))
+    let leaves = with_leaf(&o.leaves, (vpn.get() / 512) as u16)?;
+    o.vmap.insert(vpn.get(), to)?;
+    o.leaves = leaves;
+    Ok(Some(Ok(Reply::Done)))
 }
 
 // These leaf tables and one more.
 fn with_leaf(leaves: &Leaves, group: u16) -> Result<Leaves, NoMemory>
     ensures { IfOk result (λ more. more ≡ leaves.now ++ group ∷ []) }
 {
-    let mut more = leaves.copy()?;
-    more.add(group)?;
+    let mut more = leaves.try_clone()?;
+    more.push(group)?;
     Ok(more)
 }
 
-/// Lets a virtual page show nothing.
-pub fn unmap(d: &mut Domain, vpn: Vpn) -> Result<Reply, Refusal>
-    ensures did { Did d.old d.new result (unmapped d.old vpn (map.get d.old.vmap vpn)) }
-    ensures line { d.new.line ≡ d.old.line }
+/// Lets a virtual page map to nothing.
+pub fn unmap(o: &mut Own, vpn: Vpn) -> Row
+    ensures { RowDone o.old o.new result (unmap_step o.old vpn (map.get o.old.vmap vpn)) }
 {
-    if d.vmap.get(vpn).is_none() {
-        return Err(Refusal::Unmapped);
+    if o.vmap.get(vpn.get()).is_none() {
+        return Some(Err(Refusal::Unmapped));
     }
-    d.vmap.remove(vpn);
-    Ok(Reply::Done)
+    o.vmap.remove(vpn.get());
+    Some(Ok(Reply::Done))
 }

@@ -1,6 +1,6 @@
 -- The lists of virtual pages, one for each page.
-use Rattle.std.proofs.Common.{◌≡◌, ℕ, zero, suc, ◌+◌, ◌<◌, List, [], ◌∷◌, ◌++◌, length, map, set, get_or, replicate, Vec, Global, Result, Ok, Err, OnOk, OnErr, sym, ap, ◌∙◌, arith}
-use Rattle.std.proofs.lemmas.List.{map-set, map-append}
+use Rattle.std.proofs.Common.{◌≡◌, ℕ, zero, suc, ◌+◌, ◌<◌, ◌≤◌, List, [], ◌∷◌, ◌++◌, length, map, set, get_or, replicate, Vec, Global, Result, Ok, Err, OnOk, OnErr, sym, ap, ◌∙◌, arith}
+use Rattle.std.proofs.lemmas.List.{map-set, map-append, length-replicate}
 use Rattle.std.proofs.lemmas.Grind.{replicate_next}
 use Rattle.std.proofs.Math.Seq.{map-set_same}
 use Rattle.neph_base.specs.declared.numbers.Vpn.{Vpn}
@@ -61,3 +61,6 @@ new_value pages rows n m place e p l =
 
 pub placed : (pages : List Page) (n : ℕ) (place : Page) → pages ≡ replicate n place → pages ++ place ∷ [] ≡ replicate (n + 1) place
 placed pages n place e = ap (λ (xs : List Page). xs ++ place ∷ []) e ∙ sym (replicate_next n place)
+
+pub few_pages : (pages : List Page) (n m : ℕ) (place : Page) → pages ≡ replicate n place → n ≤ m → length pages ≤ m
+few_pages pages n m place e le = rw (e, length-replicate n place) le

@@ -1,15 +1,15 @@
 // The map of a guest's pages.
-ghost use Rattle.std.specs.Prelude.{◌≡◌, ◌<◌, ℕ, [], IfOk, OnOk, OnErr, length, replicate, slice_get, slice_set};
-ghost use Rattle.neph_gmap.specs.GuestPages.{vpns_at, IsRising, with_number, without_number};
+ghost use Rattle.std.specs.Prelude.{◌≡◌, ◌<◌, ◌≤◌, ℕ, [], IfOk, IfSome, OnOk, OnErr, length, replicate, slice_get, slice_set};
+ghost use Rattle.neph_gmap.specs.GuestPages.{vpns_at, page_in, IsRising, with_number, without_number};
 
 use crate::numbers::{add_number, drop_number};
 use crate::page::Page;
-use neph_base::{NoMemory, Pfn, Vpn};
+use neph_base::{FrameNo, MAX_PAGES, NoMemory, Pfn, Vpn};
 use std::alloc::Global;
 use std::marker::Model;
 
-/// For each page of a guest its place, and the rising list of virtual pages that are mapped to it. Contracts
-/// see two lists by page number.
+/// For each page of a guest its place, and the rising list of virtual pages that are mapped to it.
+/// Contracts see two lists by page number.
 #[derive(Drop)]
 pub struct GuestMap {
     pages: Vec<Page>,
@@ -17,21 +17,38 @@ pub struct GuestMap {
 }
 
 impl Model for GuestMap {
-    ghost use Rattle.std.specs.Prelude.{◌≡◌, ℕ, [], map, vec_len, slice_index_or};
+    ghost use Rattle.std.specs.Prelude.{◌≡◌, ◌≤◌, ℕ, [], map, vec_len, slice_index_or};
+    ghost use Rattle.neph_base.specs.declared.sizes.TheConstants.{MAX_PAGES};
     ghost use Rattle.neph_gmap.specs.GuestPages.{GuestPages, IsRising};
 
     ghost Value = { GuestPages };
 
-    ghost view = { λ m. record { pages = m.pages.items; vpns = map (λ v. v.items) m.vpns.items } };
+    ghost view = { λ m. record {
+      pages = m.pages.items;
+      vpns = map (λ v. v.items) m.vpns.items;
+    } };
 
     ghost invariant = { λ m. (vec_len m.vpns ≡ vec_len m.pages)
-        × ((p : ℕ) → IsRising (slice_index_or (map (λ v. v.items) m.vpns.items) p [])) };
+        × ((p : ℕ) → IsRising (slice_index_or (map (λ v. v.items) m.vpns.items) p []))
+        × (vec_len m.pages ≤ MAX_PAGES) };
+}
+
+// The place of the first page that lies in this frame.
+fn first_in(pages: &[Page], f: FrameNo) -> Option<usize>
+    ensures place { result ≡ page_in f pages.now }
+    ensures bound { IfSome result (λ n. n < length pages.now) }
+{
+    pages.iter().position(|page| page.lies_in(f))
 }
 
 impl GuestMap {
-    /// So many pages, all exposed and mapped nowhere.
+    /// So many pages, up to 1024, all exposed and mapped nowhere.
     pub fn new(alloc: Global, pages: u16) -> Result<GuestMap, NoMemory>
-        ensures { IfOk result (λ m. m ≡ record { pages = replicate pages Page.Exposed; vpns = replicate pages [] }) }
+        requires { pages ≤ MAX_PAGES }
+        ensures { IfOk result (λ m. m ≡ record {
+          pages = replicate pages Page.Exposed;
+          vpns = replicate pages [];
+        }) }
     {
         let mut places = Vec::with_capacity(alloc, pages as usize)?;
         let mut vpns = Vec::with_capacity(alloc, pages as usize)?;
@@ -50,6 +67,24 @@ impl GuestMap {
         ensures { result ≡ slice_get self.now.pages p }
     {
         self.pages.get(p.get() as usize).copied()
+    }
+
+    /// How many pages there are.
+    pub fn len(&self) -> usize
+        ensures count { result ≡ length self.now.pages }
+        ensures range { result ≤ MAX_PAGES }
+    {
+        self.pages.len()
+    }
+
+    /// The first page that lies in this frame, `None` exactly where none does.
+    pub fn page_in(&self, f: FrameNo) -> Option<Pfn>
+        ensures { result ≡ page_in f self.now.pages }
+    {
+        match first_in(&self.pages, f) {
+            Some(place) => Pfn::new(place as u32),
+            None => None,
+        }
     }
 
     /// Puts a page elsewhere.
@@ -76,7 +111,9 @@ impl GuestMap {
     /// Notes that a virtual page is mapped to a page. After `NoMemory` nothing has changed.
     pub fn add_vpn(&mut self, p: Pfn, v: Vpn) -> Result<(), NoMemory>
         requires { p < length self.old.pages }
-        ensures ok { OnOk result (self.new ≡ record self.old { vpns = slice_set self.old.vpns p (with_number v (vpns_at self.old p)) }) }
+        ensures ok { OnOk result (self.new ≡ record self.old {
+          vpns = slice_set self.old.vpns p (with_number v (vpns_at self.old p));
+        }) }
         ensures err { OnErr result (self.new ≡ self.old) }
     {
         let list = &mut self.vpns[p.get() as usize];
@@ -85,7 +122,9 @@ impl GuestMap {
 
     /// Notes that a virtual page is not mapped to a page.
     pub fn drop_vpn(&mut self, p: Pfn, v: Vpn)
-        ensures { self.new ≡ record self.old { vpns = slice_set self.old.vpns p (without_number v (vpns_at self.old p)) } }
+        ensures { self.new ≡ record self.old {
+          vpns = slice_set self.old.vpns p (without_number v (vpns_at self.old p));
+        } }
     {
         let place = p.get() as usize;
         if place < self.vpns.len() {

@@ -14,6 +14,8 @@ fn pages_and_their_mappings(rt: HostRuntime) -> Result<(), Fail> {
     assert!(rt; map.page(past).is_none());
     map.set(p, Page::Local(f));
     assert!(rt; map.page(p) == Some(Page::Local(f)));
+    assert!(rt; map.page_in(f) == Some(p));
+    assert_eq!(rt; map.len(), 8);
     for n in [9, 3, 262143, 3] {
         let v = Vpn::new(n).ok_or("vpn")?;
         map.add_vpn(p, v)?;
@@ -23,5 +25,17 @@ fn pages_and_their_mappings(rt: HostRuntime) -> Result<(), Fail> {
     map.drop_vpn(p, v);
     assert_eq!(rt; map.vpns(p).len(), 2);
     assert_eq!(rt; map.vpns(past).len(), 0);
+    Ok(())
+}
+
+#[test]
+fn the_largest_guest(rt: HostRuntime) -> Result<(), Fail> {
+    let mut map = GuestMap::new(rt.alloc(), 1024)?;
+    let p = Pfn::new(1023).ok_or("pfn")?;
+    let f = FrameNo::new(0).ok_or("frame")?;
+    assert!(rt; p.get() < 1024);
+    assert!(rt; map.page_in(f).is_none());
+    map.set(p, Page::Local(f));
+    assert!(rt; map.page_in(f) == Some(p));
     Ok(())
 }

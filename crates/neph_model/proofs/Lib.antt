@@ -1,9 +1,0 @@
-pub mod Shown
-pub mod Children
-pub mod Works
-pub mod Lines
-pub mod Falls
-pub mod Keeps
-pub mod Moves
-pub mod Runs
-pub mod Coloured

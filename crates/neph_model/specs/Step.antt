@@ -1,167 +1,145 @@
--- One step of the plain machine: what an entry does, and what it is answered.
-use Rattle.std.specs.Prelude.{ℕ, Bool, true, false, if◌then◌else◌, ◌==◌, ◌+◌, ◌/◌, ◌%◌, ◌||◌, ◌&&◌, not, nat_lt, nat_le, List, [], ◌∷◌, ◌++◌, length, take, drop, Option, None, Some, is_some, Result, Ok, Err, slice_index_or, slice_set}
+-- One step of the plain machine: a local line on the own half of its domain, and every other entry on the shared half.
+use Rattle.std.specs.Prelude.{ℕ, Bool, true, false, ◌==◌, ◌||◌, ◌&&◌, not, List, [], ◌∷◌, Option, None, Some, Ok, Err, slice_set, if◌then◌else◌}
 use Rattle.std.specs.List.{list_any}
-use Rattle.std.specs.FinMap as map
-use Rattle.neph_base.specs.declared.reply.Entry.{Entry}
-use Rattle.neph_base.specs.declared.reply.Entry.TheVariants as entry
 use Rattle.neph_base.specs.declared.command.Command.{Command}
 use Rattle.neph_base.specs.declared.command.Command.TheVariants as command
-use Rattle.neph_base.specs.declared.command.Mode.{Mode}
-use Rattle.neph_base.specs.declared.command.Mode.TheVariants.{Ro, Rw}
+use Rattle.neph_base.specs.declared.reply.Entry.{Entry}
+use Rattle.neph_base.specs.declared.reply.Entry.TheVariants.{Line, Commit, Daemon}
 use Rattle.neph_base.specs.declared.reply.Reply.{Reply}
 use Rattle.neph_base.specs.declared.reply.Reply.TheVariants as reply
-use Rattle.neph_base.specs.declared.reply.Refusal.{Refusal}
-use Rattle.neph_base.specs.declared.reply.Refusal.TheVariants.{Unmapped, ReadOnly, BadPfn, NoFrame}
 use Rattle.neph_model.specs.declared.script.Script.{Script}
-use Rattle.neph_model.specs.declared.script.Label.{Label}
-use Rattle.neph_model.specs.declared.domain.Domain.{Domain}
-use Rattle.neph_model.specs.declared.domain.Cloned.{Cloned}
-use Rattle.neph_model.specs.declared.memory.Mapping.{Mapping}
 use Rattle.neph_model.specs.declared.told.Told.{Told}
-use Rattle.neph_model.specs.declared.told.Told.TheVariants.{Enough, Short, Free}
-use Rattle.neph_model.specs.Memory.{overwritten}
-use Rattle.neph_model.specs.Machine.{Machine, domain_at, put_domain, end_domain, commands_run, labels_run, command_in, label_line}
-use Rattle.neph_model.specs.Clone.{clone_refusal, began, committed}
+use Rattle.neph_model.specs.Programs.{command_at}
+use Rattle.neph_model.specs.Machine.{Own, Cloned, Shared, Machine, own_at, is_live, guest_at, put_own, program_run}
+use Rattle.neph_model.specs.Own.{local_step}
+use Rattle.neph_model.specs.Lent.{Lent, PageBack, lent, lent_whole, nothing_lent, own_behind}
+use Rattle.neph_model.specs.Trap.{CallResult, trap, is_blocked}
+use Rattle.neph_model.specs.Births.{child_own, parent_own, commit, end_domain, join}
+
+-- what an entry under the lock does: the shared half behind it, its reply, and a page that it gives back
+pub record Locked : Type 0 where
+  pub shared : Shared
+  pub reply : Reply
+  pub back : Option PageBack
+
+-- this shared half and reply, and nothing given back
+abbrev pub locked : Shared → Reply → Locked
+locked sh reply = record { shared = sh; reply = reply; back = None }
+
+-- a call, which changes nothing where it is refused
+abbrev pub call_effect : Shared → CallResult → Locked
+call_effect sh (Ok did) = record { shared = record sh { tables = did.tables; pages = did.pages }; reply = did.reply; back = did.back }
+call_effect sh (Err why) = locked sh (reply.Refused why)
+
+-- a line of a domain under the lock: its end, or a call
+abbrev pub shared_line : Shared → ℕ → Lent → Told → Command → Locked
+shared_line sh id l told command.Exit = locked (end_domain sh id) reply.Ended
+shared_line sh id l told c = call_effect sh (trap sh id (guest_at id sh.tables) l told c)
+
+-- the commit of the first of the children whose clones a domain has begun
+abbrev pub shared_commit : Shared → ℕ → List ℕ → Locked
+shared_commit sh id [] = locked sh reply.Done
+shared_commit sh id (child ∷ left) = locked (commit sh id child left) (reply.Child child)
+
+-- the second stage of the oldest of these clones
+abbrev pub shared_join : Shared → List Cloned → Locked
+shared_join sh [] = locked sh reply.Done
+shared_join sh (w ∷ rest) = locked (join sh rest) (reply.Child w.child)
+
+-- an entry under the lock, on the shared half and what is lent to it
+abbrev pub shared_step : Script → Shared → Entry → Lent → Told → Locked
+shared_step s sh (Line dom line) l told = shared_line sh dom l told (command_at s (program_run dom sh.lives) line)
+shared_step s sh (Commit dom line) l told = shared_commit sh dom (guest_at dom sh.tables).begun
+shared_step s sh Daemon l told = shared_join sh sh.tables.waiting
+
+-- whose entry it is, 0 for the daemon
+abbrev pub actor : Entry → ℕ
+actor (Line dom line) = dom
+actor (Commit dom line) = dom
+actor Daemon = 0
+
+-- what the own half of its actor, which runs the program with this number, does of an entry by itself: None where it is one under the lock
+abbrev pub own_step : Script → ℕ → Own → Entry → Told → Option (Own × Reply)
+own_step s p o (Line dom line) told = local_step s p o told (command_at s p line)
+own_step s p o _ told = None
+
+-- what the own half of its actor lends to an entry under the lock
+abbrev pub lends : Script → ℕ → Own → Entry → Lent
+lends s p o (Line dom line) = lent o (command_at s p line)
+lends s p o (Commit dom line) = lent_whole o
+lends s p o Daemon = nothing_lent
+
+-- the own half of its actor behind an entry under the lock that was answered so, and gave this back
+abbrev pub own_after : Script → ℕ → Own → Entry → Reply → Option PageBack → Own
+own_after s p o (Line dom line) reply back = own_behind o (command_at s p line) reply back
+own_after s p o (Commit dom line) reply back = parent_own o
+own_after s p o Daemon reply back = o
+
+-- the child that an entry with this reply makes
+abbrev pub child_made : Entry → Reply → Option ℕ
+child_made (Commit dom line) (reply.Child child) = Some child
+child_made _ _ = None
+
+-- the own halves with that of a child, if any, of a domain with this id and own half
+abbrev pub bear : List Own → ℕ → Own → Option ℕ → List Own
+bear own id o None = own
+bear own id o (Some child) = slice_set own child (child_own child id o)
 
 -- what the machine is after an entry, and what the entry was answered
 pub record Outcome : Type 0 where
   pub machine : Machine
   pub reply : Reply
 
--- a domain with these bytes at an offset of one of its pages
-abbrev pub with_bytes : Domain → ℕ → ℕ → List ℕ → Domain
-with_bytes d pfn at bytes = record d { pages = slice_set d.pages pfn (overwritten (slice_index_or d.pages pfn []) at bytes) }
+-- an entry under the lock: the shared half does it with what is lent to it, and the own halves follow
+abbrev pub locked_step : Script → Machine → Entry → Told → Outcome
+locked_step s m e told =
+    let id = actor e in
+    let p = program_run id m.shared.lives in
+    let o = own_at id m.own in
+    let did = shared_step s m.shared e (lends s p o e) told in
+    record {
+      machine = record { own = slice_set (bear m.own id o (child_made e did.reply)) id (own_after s p o e did.reply did.back); shared = did.shared };
+      reply = did.reply;
+    }
 
--- `w` where its address shows this: refused where nothing is mapped, where the page is read-only, and where it is told that no frame is left
-abbrev pub written : Domain → Told → ℕ → List ℕ → Option Mapping → Result (Domain × Reply) Refusal
-written d told at bytes None = Err Unmapped
-written d told at bytes (Some shown) = by_mode shown.mode told where
-  by_mode : Mode → Told → Result (Domain × Reply) Refusal
-  by_mode Ro told = Err ReadOnly
-  by_mode Rw Short = Err NoFrame
-  by_mode Rw Enough = Ok (with_bytes d shown.pfn at bytes, reply.Done)
-  by_mode Rw (Free f) = Ok (with_bytes d shown.pfn at bytes, reply.Done)
+-- an entry, of which its actor does this by itself
+abbrev pub step_by : Script → Machine → Entry → Told → Option (Own × Reply) → Outcome
+step_by s m e told (Some did) = record { machine = put_own (actor e) did.0 m; reply = did.1 }
+step_by s m e told None = locked_step s m e told
 
--- `r` of n bytes where its address shows this
-abbrev pub bytes_read : Domain → ℕ → ℕ → Option Mapping → Result (Domain × Reply) Refusal
-bytes_read d at n None = Err Unmapped
-bytes_read d at n (Some shown) = Ok (d, reply.Bytes (take n (drop at (slice_index_or d.pages shown.pfn []))))
+-- an entry
+abbrev pub step : Script → Machine → Entry → Told → Outcome
+step s m e told = step_by s m e told (own_step s (program_run (actor e) m.shared.lives) (own_at (actor e) m.own) e told)
 
--- the guest has no such page, or it is an identity or device page, which isn't mapped writable
-abbrev pub is_bad_pfn : Domain → ℕ → Mode → Bool
-is_bad_pfn d pfn Ro = nat_le (length d.pages) pfn
-is_bad_pfn d pfn Rw = nat_le (length d.pages) pfn || nat_lt pfn 4
+-- a clone waits for its second stage, of which this is the parent or the child
+abbrev pub awaits_join : ℕ → List Cloned → Bool
+awaits_join id waiting = list_any (λ (w : Cloned). w.parent == id || w.child == id) waiting
 
--- the group of 512 virtual pages of this one has a leaf table
-abbrev pub has_leaf : Domain → ℕ → Bool
-has_leaf d vpn = list_any (λ g. g == vpn / 512) d.leaves
+-- there is something in a list
+abbrev pub is_some_left : {X : Type 0} → List X → Bool
+is_some_left [] = false
+is_some_left (x ∷ xs) = true
 
--- a domain whose virtual page shows this
-abbrev pub showing : Domain → ℕ → ℕ → Mode → Domain
-showing d vpn pfn mode = record d { vmap = map.insert d.vmap vpn (record { pfn = pfn; mode = mode }) }
+-- A clone's parent is paused from its begin to its second stage, its child from the commit on.
+abbrev pub is_paused : ℕ → Shared → Bool
+is_paused id sh = is_some_left (guest_at id sh.tables).begun || awaits_join id sh.tables.waiting
 
--- a domain with one more leaf table
-abbrev pub with_leaf : Domain → ℕ → Domain
-with_leaf d vpn = record d { leaves = d.leaves ++ vpn / 512 ∷ [] }
+-- by the shared half the entry may stand here: who does it is live and not paused, and can do it
+abbrev pub may_stand : Script → Shared → Entry → Bool
+may_stand s sh (Line dom line) = is_live dom sh.lives && (not (is_paused dom sh) && not (is_blocked sh dom (command_at s (program_run dom sh.lives) line)))
+may_stand s sh (Commit dom line) = is_live dom sh.lives && is_some_left (guest_at dom sh.tables).begun
+may_stand s sh Daemon = is_some_left sh.tables.waiting
 
--- a `map` that needs a leaf table, by what it is told
-abbrev pub mapped_leafless : Domain → Told → Result (Domain × Reply) Refusal
-mapped_leafless d Enough = Ok (d, reply.Done)
-mapped_leafless d Short = Err NoFrame
-mapped_leafless d (Free f) = Ok (d, reply.Done)
+-- by the own half of its actor it may: the domain is at that line
+abbrev pub is_next : Own → Entry → Bool
+is_next o (Line dom line) = o.line == line
+is_next o (Commit dom line) = o.line == line
+is_next o Daemon = true
 
--- `map`: refused for a page that can't be mapped so, and where its leaf table is missing and it is told that no frame is left
-abbrev pub mapped : Domain → Told → ℕ → ℕ → Mode → Result (Domain × Reply) Refusal
-mapped d told vpn pfn mode =
-    if is_bad_pfn d pfn mode then Err BadPfn
-    else (if has_leaf d vpn then Ok (showing d vpn pfn mode, reply.Done) else mapped_leafless (with_leaf (showing d vpn pfn mode) vpn) told)
+-- the entry is the next one of its actor, and may stand here
+abbrev pub is_due : Script → Machine → Entry → Bool
+is_due s m e = may_stand s m.shared e && is_next (own_at (actor e) m.own) e
 
--- `unmap` of a virtual page that shows this
-abbrev pub unmapped : Domain → ℕ → Option Mapping → Result (Domain × Reply) Refusal
-unmapped d vpn None = Err Unmapped
-unmapped d vpn (Some shown) = Ok (record d { vmap = map.remove d.vmap vpn }, reply.Done)
-
--- the number that `free` is told
-abbrev pub free_told : Told → ℕ
-free_told Enough = 0
-free_told Short = 0
-free_told (Free f) = f
-
--- on to the next line, with the mark of the last command
-abbrev pub settled : Domain → Result (Domain × Reply) Refusal → Domain × Reply
-settled d (Ok did) = (record did.0 { line = d.line + 1; refused = false }, did.1)
-settled d (Err why) = (record d { line = d.line + 1; refused = true }, reply.Refused why)
-
--- a command that changes nothing but its own domain
-abbrev pub own : Machine → ℕ → Domain → Result (Domain × Reply) Refusal → Outcome
-own m id d did = let after = settled d did in record { machine = put_domain id after.0 m; reply = after.1 }
-
--- A jump to a line, where it is taken. It leaves the mark of the last command.
-abbrev pub jumped : Machine → ℕ → Domain → ℕ → Bool → Outcome
-jumped m id d line taken = if taken then at line reply.Go else at (d.line + 1) reply.On where
-  at : ℕ → Reply → Outcome
-  at line answer = record { machine = put_domain id (record d { line = line }) m; reply = answer }
-
--- a clone that is refused so, or else begins
-abbrev pub cloned : Machine → ℕ → Domain → Option Refusal → Outcome
-cloned m id d None = record { machine = began m id d; reply = reply.Begun m.next }
-cloned m id d (Some why) = own m id d (Err why)
-
--- what a command of a domain with this id does, by its rules
-abbrev pub command_step : List Label → Machine → ℕ → Domain → Told → Command → Outcome
-command_step labels m id d told (command.W addr bytes) = own m id d (written d told (addr % 4096) bytes (map.get d.vmap (addr / 4096)))
-command_step labels m id d told (command.R addr len) = own m id d (bytes_read d (addr % 4096) len (map.get d.vmap (addr / 4096)))
-command_step labels m id d told (command.Map vpn pfn mode) = own m id d (mapped d told vpn pfn mode)
-command_step labels m id d told (command.Unmap vpn) = own m id d (unmapped d vpn (map.get d.vmap vpn))
-command_step labels m id d told (command.Jump label) = jumped m id d (label_line labels label) true
-command_step labels m id d told (command.JChild label) = jumped m id d (label_line labels label) d.came
-command_step labels m id d told (command.JFail label) = jumped m id d (label_line labels label) d.refused
-command_step labels m id d told command.Exit = record { machine = end_domain id m; reply = reply.Ended }
-command_step labels m id d told command.Free = own m id d (Ok (d, reply.Number (free_told told)))
-command_step labels m id d told command.Clone = cloned m id d (clone_refusal m d told)
-
--- the command at a domain's line
-abbrev pub next_command : Script → Domain → Command
-next_command s d = command_in (commands_run s d) d.line
-
--- the next line of a domain with this id
-abbrev pub line_step : Script → Machine → ℕ → Domain → Told → Outcome
-line_step s m id d told = command_step (labels_run s d) m id d told (next_command s d)
-
--- from its commit to its second stage a clone's parent and child are paused
-abbrev pub is_paused : ℕ → Machine → Bool
-is_paused id m = list_any (λ (w : Cloned). w.parent == id || w.child == id) m.waiting
-
--- the domain does its lines: no clone that it has begun isn't committed, and it isn't paused
-abbrev pub is_running : ℕ → Domain → Machine → Bool
-is_running id d m = not (is_some d.begun) && not (is_paused id m)
-
--- a line of a domain, where it is live, is at that line and does its lines
-abbrev pub line_entry : Script → Machine → ℕ → ℕ → Told → Option Domain → Option Outcome
-line_entry s m id line told None = None
-line_entry s m id line told (Some d) = if d.line == line && is_running id d m then Some (line_step s m id d told) else None
-
--- a commit of this child by a domain with this id
-abbrev pub commit_step : Machine → ℕ → Domain → ℕ → Outcome
-commit_step m id d child = record { machine = committed m id d child; reply = reply.Child child }
-
--- a commit, where the domain has begun a clone
-abbrev pub commit_begun : Machine → ℕ → Domain → Option ℕ → Option Outcome
-commit_begun m id d None = None
-commit_begun m id d (Some child) = Some (commit_step m id d child)
-
--- a commit at a line, where the domain is live, is at that line and has begun a clone
-abbrev pub commit_entry : Machine → ℕ → ℕ → Option Domain → Option Outcome
-commit_entry m id line None = None
-commit_entry m id line (Some d) = if d.line == line then commit_begun m id d d.begun else None
-
--- the second stage of the oldest of these clones: its parent and child run on
-abbrev pub join_entry : Machine → List Cloned → Option Outcome
-join_entry m [] = None
-join_entry m (w ∷ rest) = Some (record { machine = record m { waiting = rest }; reply = reply.Child w.child })
-
--- an entry, where it is the next one of its actor
+-- an entry, where it is due
 abbrev pub entry_step : Script → Machine → Entry → Told → Option Outcome
-entry_step s m (entry.Line dom line) told = line_entry s m dom line told (domain_at dom m)
-entry_step s m (entry.Commit dom line) told = commit_entry m dom line (domain_at dom m)
-entry_step s m entry.Daemon told = join_entry m m.waiting
+entry_step s m e told = if is_due s m e then Some (step s m e told) else None

@@ -1,5 +1,5 @@
--- The transcript of a run.
-use Rattle.std.specs.Prelude.{ℕ, ◌-◌, if◌then◌else◌, List, [], ◌∷◌, ◌++◌, Option, None, Some, slice_get, slice_set, slice_index, codes}
+-- The text of a transcript.
+use Rattle.std.specs.Prelude.{ℕ, Bool, true, false, ◌-◌, List, [], ◌∷◌, ◌++◌, Option, None, Some, slice_get, slice_set, slice_index, codes}
 use Rattle.std.specs.List.{range_with_len}
 use Rattle.std.specs.Fmt.{decimal}
 use Rattle.neph_base.specs.declared.reply.Noted.{Noted}
@@ -8,14 +8,13 @@ use Rattle.neph_base.specs.declared.reply.Entry.TheVariants.{Line, Commit, Daemo
 use Rattle.neph_base.specs.declared.reply.Reply.{Reply}
 use Rattle.neph_base.specs.declared.reply.Reply.TheVariants.{Done, Go, On, Ended, Number, Begun, Child, Bytes, Refused}
 use Rattle.neph_base.specs.declared.reply.Refusal.{Refusal}
-use Rattle.neph_base.specs.declared.reply.Refusal.TheVariants.{Unmapped, ReadOnly, BadPfn, NoFrame, Limit, Ids, Frames}
+use Rattle.neph_base.specs.declared.reply.Refusal.TheVariants.{Unmapped, ReadOnly, BadPfn, NoFrame, Limit, Ids, PolicyNet, PolicyP9, Frames}
 use Rattle.neph_model.specs.declared.script.Script.{Script}
 use Rattle.neph_model.specs.declared.script.Program.{Program}
 use Rattle.neph_model.specs.declared.script.Start.{Start}
-use Rattle.neph_model.specs.Machine.{commands_of, labels_of, command_in}
-use Rattle.neph_model.specs.Frames.{Counts, free_frames}
-use Rattle.neph_model.specs.Books.{counts}
-use Rattle.neph_model.specs.Run.{Ran}
+use Rattle.neph_model.specs.Programs.{commands_of, labels_of, command_in, program_at}
+use Rattle.neph_model.specs.Frames.{Counts}
+use Rattle.neph_model.specs.Step.{actor, child_made}
 use Rattle.neph_model.specs.Words.{command_words, spaced, hex}
 
 -- the word of a refusal
@@ -26,6 +25,8 @@ refusal_text BadPfn = codes "badpfn"
 refusal_text NoFrame = codes "noframe"
 refusal_text Limit = codes "limit"
 refusal_text Ids = codes "ids"
+refusal_text PolicyNet = codes "policy net"
+refusal_text PolicyP9 = codes "policy p9"
 refusal_text (Frames need free) = codes "frames " ++ decimal need ++ codes " " ++ decimal free
 
 -- a reply behind ` = `
@@ -41,13 +42,13 @@ reply_text (Bytes bytes) = hex bytes
 reply_text (Refused why) = codes "no " ++ refusal_text why
 
 -- the number of the program of a domain line
-abbrev pub program_of : Option Start → ℕ
-program_of None = 0
-program_of (Some t) = t.program
+abbrev pub program_started : Option Start → ℕ
+program_started None = 0
+program_started (Some t) = t.program
 
 -- the program of a family: that of the domain line with its number, counted from 1
 abbrev pub family_program : Script → ℕ → Option Program
-family_program s family = slice_get s.programs (program_of (slice_get s.starts (family - 1)))
+family_program s family = program_at s (program_started (slice_get s.starts (family - 1)))
 
 -- the text of a program's command at a line
 abbrev pub command_text : Option Program → ℕ → List ℕ
@@ -60,21 +61,17 @@ entry_line s family (Line dom line) reply =
 entry_line s family (Commit dom line) reply = decimal dom ++ codes ":" ++ decimal line ++ codes " commit = " ++ reply_text reply ++ codes "\n"
 entry_line s family Daemon reply = codes "daemon = " ++ reply_text reply ++ codes "\n"
 
--- the domain of an entry, 0 for the daemon
-abbrev pub domain_of : Entry → ℕ
-domain_of (Line dom line) = dom
-domain_of (Commit dom line) = dom
-domain_of Daemon = 0
-
--- the families of the ids from 0 to 63 behind an entry: a commit gives the child the family of its parent
-abbrev pub families_after : List ℕ → Entry → Reply → List ℕ
-families_after families (Commit dom line) (Child child) = slice_set families child (slice_index families dom)
-families_after families entry reply = families
+-- the families of the ids from 0 to 63 behind an entry of this domain: the child that it makes, if any, has its family
+abbrev pub families_after : List ℕ → ℕ → Option ℕ → List ℕ
+families_after families dom None = families
+families_after families dom (Some child) = slice_set families child (slice_index families dom)
 
 -- the lines of some entries
 abbrev pub history_text : Script → List ℕ → List Noted → List ℕ
 history_text s families [] = []
-history_text s families (x ∷ xs) = entry_line s (slice_index families (domain_of x.entry)) x.entry x.reply ++ history_text s (families_after families x.entry x.reply) xs
+history_text s families (x ∷ xs) =
+    let dom = actor x.entry in
+    entry_line s (slice_index families dom) x.entry x.reply ++ history_text s (families_after families dom (child_made x.entry x.reply)) xs
 
 -- at the start each domain is of the family with its own number
 unfoldable pub start_families : List ℕ
@@ -83,12 +80,14 @@ start_families = range_with_len 0 64
 -- the line of the frames
 abbrev pub frames_line : Counts → List ℕ
 frames_line c =
-    codes "frames " ++ decimal c.total ++ codes " colours " ++ decimal c.colours ++ codes " tables " ++ decimal c.tables ++ codes " spares " ++ decimal c.spares ++ codes " aside " ++ decimal c.aside ++ codes " free " ++ decimal (free_frames c) ++ codes "\n"
+    codes "frames " ++ decimal c.total ++ codes " colours " ++ decimal c.colours ++ codes " tables " ++ decimal c.tables
+    ++ codes " spares " ++ decimal c.spares ++ codes " aside " ++ decimal c.aside ++ codes " free " ++ decimal c.free ++ codes "\n"
 
 -- the last line
-abbrev pub end_line : Ran → List ℕ
-end_line r = if r.stalled then codes "end stalled\n" else codes "end ended\n"
+abbrev pub end_line : Bool → List ℕ
+end_line true = codes "end stalled\n"
+end_line false = codes "end ended\n"
 
--- the whole text of a run
-abbrev pub transcript : Script → Ran → List ℕ
-transcript s r = codes "transcript 1\n" ++ history_text s start_families r.history ++ frames_line (counts s r.last) ++ end_line r
+-- the whole text of a script's history that came to these counts of frames, and stalled or not
+abbrev pub transcript : Script → List Noted → Counts → Bool → List ℕ
+transcript s history c stalled = codes "transcript 1\n" ++ history_text s start_families history ++ frames_line c ++ end_line stalled

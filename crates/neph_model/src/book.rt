@@ -45,13 +45,22 @@ impl Colours {
     }
 }
 
+/// How far a domain is with its line.
+#[derive(Clone, Copy, Debug, PartialEq, Eq)]
+pub enum Stage {
+    /// It is ready for it.
+    Ready,
+    /// It has found that its write needs a copy.
+    Copying,
+    /// It has begun a clone, and so many page steps are left.
+    Forking(u16),
+}
+
 /// What the turns keep of a domain: how far it is with its line, its spare frame and the colours of its pages.
 #[derive(Drop)]
 pub struct Book {
-    /// How many page steps are left of the clone that it has begun.
-    pub left: u16,
-    /// Whether it has found that its write needs a copy.
-    pub copying: bool,
+    /// How far it is with its line.
+    pub stage: Stage,
     /// Whether it holds a spare frame.
     pub spare: bool,
     /// The colours of its pages.
@@ -69,9 +78,15 @@ pub enum Spends {
     Copy(Pfn),
 }
 
-/// What a turn of a domain that is neither cloning nor paused does.
+/// What a live domain does in its turn.
 #[derive(Clone, Copy, Debug, PartialEq, Eq)]
 pub enum Move {
+    /// Nothing.
+    Rests,
+    /// One of the page steps of its clone.
+    StepsPage,
+    /// It commits its clone.
+    Commits,
     /// It finds that its write needs a copy.
     Copies,
     /// It takes a frame as its spare.

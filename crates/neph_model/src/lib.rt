@@ -2,15 +2,17 @@
 #![tactic(auto)]
 
 mod book;
-mod domain;
-mod laws;
+mod frames;
+mod life;
 mod memory;
+mod own;
 mod script;
 mod told;
 
-pub use book::{Book, Colours, Move, Spends};
-pub use domain::{Cloned, Domain, Leaves, Pages};
-pub use laws::{copies_its_parent, ends_over, one_run, refuses_plainly, some_run, writes_alone};
-pub use memory::{Mapping, Page, VMap};
+pub use book::{Book, Colours, Move, Spends, Stage};
+pub use frames::FrameCounts;
+pub use life::{Cloned, Guest, Life};
+pub use memory::{Mapping, Page};
+pub use own::{Leaves, Own, Pages, VMap};
 pub use script::{Actors, Commands, Label, Labels, Program, Programs, Script, Start, Starts};
 pub use told::Told;

@@ -1,11 +1,9 @@
-// A guest's pages, and which virtual page shows which of them.
-ghost use Rattle.std.specs.Prelude.{◌≡◌, ◌+◌, ◌≤◌, length, IfOk, OnOk, OnErr};
-ghost use Rattle.std.specs.FinMap as map;
-ghost use Rattle.neph_model.specs.Memory.{overwritten, zero_page};
+// A guest's pages, and what virtual pages map to.
+ghost use Rattle.std.specs.Prelude.{◌≡◌, ◌+◌, ◌≤◌, length, IfOk};
+ghost use Rattle.neph_model.specs.Memory.{page_with_bytes, zero_page};
 
-use neph_base::{Mode, NoMemory, Pfn, Vpn};
+use neph_base::{Mode, NoMemory, Pfn, TryClone};
 use std::alloc::Global;
-use std::collections::BTreeMap;
 use std::marker::Model;
 
 /// The 4096 bytes of a page.
@@ -46,7 +44,7 @@ impl Page {
     /// Writes these bytes at this offset.
     pub fn write(&mut self, at: usize, bytes: &[u8])
         requires { at + length bytes.now ≤ 4096 }
-        ensures { self.new ≡ overwritten self.old at bytes.now }
+        ensures { self.new ≡ page_with_bytes self.old at bytes.now }
     {
         overwrite(&mut self.bytes, at, bytes);
     }
@@ -63,12 +61,12 @@ impl Page {
 
 fn overwrite(page: &mut [u8], at: usize, bytes: &[u8])
     requires { at + length bytes.now ≤ length page.old }
-    ensures { page.new ≡ overwritten page.old at bytes.now }
+    ensures { page.new ≡ page_with_bytes page.old at bytes.now }
 {
     page[at..at + bytes.len()].copy_from_slice(bytes);
 }
 
-/// What a virtual page shows: a page of the guest, and how.
+/// What a virtual page maps to: a page of the guest, and how.
 #[derive(Clone, Copy, Debug, PartialEq, Eq)]
 pub struct Mapping {
     /// The guest's page.
@@ -77,65 +75,8 @@ pub struct Mapping {
     pub mode: Mode,
 }
 
-/// Which page each virtual page shows.
-#[derive(Drop)]
-pub struct VMap {
-    entries: BTreeMap<u32, Mapping>,
-}
-
-impl Model for VMap {
-    ghost use Rattle.std.specs.Ordering.{nat_cmp};
-    ghost use Rattle.std.specs.FinMap as map;
-    ghost use Rattle.std.specs.Coded.{codes, coded_ℕ};
-    ghost use Rattle.neph_model.specs.declared.memory.Mapping.{Mapping};
-    ghost use Rattle.neph_model.specs.contracts.memory.Mapping as mapping;
-
-    ghost Value = { map.FinMap nat_cmp Mapping };
-
-    ghost coded = { map.code coded_ℕ (Prim.hlevel (codes, mapping.the_row.coded)) };
-
-    ghost view = { λ a. map.from_entries a.entries.entries };
-}
-
-impl VMap {
-    /// The map that shows nothing.
-    pub fn new(alloc: Global) -> Self
-        ensures { result ≡ map.empty }
-    {
-        VMap {
-            entries: BTreeMap::new(alloc),
-        }
-    }
-
-    /// What a virtual page shows, `None` exactly where nothing is mapped.
-    pub fn get(&self, vpn: Vpn) -> Option<Mapping>
-        ensures { result ≡ map.get self.now vpn }
-    {
-        self.entries.get(&vpn.get()).copied()
-    }
-
-    /// Lets a virtual page show this, in place of what it showed.
-    pub fn insert(&mut self, vpn: Vpn, to: Mapping) -> Result<(), NoMemory>
-        ensures ok { OnOk result (self.new ≡ map.insert self.old vpn to) }
-        ensures err { OnErr result (self.new ≡ self.old) }
-    {
-        self.entries.insert(vpn.get(), to)?;
-        Ok(())
-    }
-
-    /// Lets a virtual page show nothing.
-    pub fn remove(&mut self, vpn: Vpn)
-        ensures { self.new ≡ map.remove self.old vpn }
-    {
-        let _shown = self.entries.remove(&vpn.get());
-    }
-
-    /// The same map again, in memory of its own.
-    pub fn copy(&self) -> Result<Self, NoMemory>
-        ensures { IfOk result (λ c. c ≡ self.now) }
-    {
-        Ok(VMap {
-            entries: self.entries.clone()?,
-        })
+impl TryClone for Mapping {
+    fn try_clone(&self) -> Result<Self, NoMemory> {
+        Ok(*self)
     }
 }

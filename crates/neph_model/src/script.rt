@@ -1,8 +1,5 @@
 // A script: what its programs do, and which domains start.
-ghost use Rattle.std.specs.Prelude.{◌≡◌, IfOk};
-
-use neph_base::{Actor, Command, Name, NoMemory};
-use std::marker::Model;
+use neph_base::{Actor, Command, List, Name, NoMemory, TryClone};
 
 /// A script.
 #[derive(Debug, Drop)]
@@ -17,16 +14,13 @@ pub struct Script {
     pub turns: Actors,
 }
 
-impl Script {
-    /// The same script again, in memory of its own.
-    pub fn copy(&self) -> Result<Self, NoMemory>
-        ensures { IfOk result (λ c. c ≡ self.now) }
-    {
+impl TryClone for Script {
+    fn try_clone(&self) -> Result<Self, NoMemory> {
         Ok(Script {
             frames: self.frames,
-            programs: self.programs.copy()?,
-            starts: self.starts.copy()?,
-            turns: self.turns.copy()?,
+            programs: self.programs.try_clone()?,
+            starts: self.starts.try_clone()?,
+            turns: self.turns.try_clone()?,
         })
     }
 }
@@ -42,15 +36,12 @@ pub struct Program {
     pub labels: Labels,
 }
 
-impl Program {
-    /// The same program again, in memory of its own.
-    pub fn copy(&self) -> Result<Self, NoMemory>
-        ensures { IfOk result (λ c. c ≡ self.now) }
-    {
+impl TryClone for Program {
+    fn try_clone(&self) -> Result<Self, NoMemory> {
         Ok(Program {
-            name: self.name.copy()?,
-            commands: self.commands.copy()?,
-            labels: self.labels.copy()?,
+            name: self.name.try_clone()?,
+            commands: self.commands.try_clone()?,
+            labels: self.labels.try_clone()?,
         })
     }
 }
@@ -64,13 +55,10 @@ pub struct Label {
     pub at: u16,
 }
 
-impl Label {
-    /// The same label again, in memory of its own.
-    pub fn copy(&self) -> Result<Self, NoMemory>
-        ensures { IfOk result (λ c. c ≡ self.now) }
-    {
+impl TryClone for Label {
+    fn try_clone(&self) -> Result<Self, NoMemory> {
         Ok(Label {
-            name: self.name.copy()?,
+            name: self.name.try_clone()?,
             at: self.at,
         })
     }
@@ -87,200 +75,23 @@ pub struct Start {
     pub limit: u8,
 }
 
+impl TryClone for Start {
+    fn try_clone(&self) -> Result<Self, NoMemory> {
+        Ok(*self)
+    }
+}
+
 /// A list of commands.
-#[derive(Debug, Drop)]
-pub struct Commands {
-    list: Vec<Command>,
-}
-
-impl Model for Commands {
-    ghost use Rattle.std.specs.Prelude.{List};
-    ghost use Rattle.neph_base.specs.declared.command.Command.{Command};
-
-    ghost Value = { List Command };
-
-    ghost view = { λ a. a.list.items };
-}
-
-impl Commands {
-    /// The list of these commands.
-    pub fn of(list: Vec<Command>) -> Self
-        ensures { result ≡ list.items }
-    {
-        Commands { list }
-    }
-
-    /// The commands.
-    pub fn items(&self) -> &[Command]
-        ensures { result.now ≡ self.now }
-    {
-        &self.list
-    }
-
-    /// The same list again, in memory of its own.
-    pub fn copy(&self) -> Result<Self, NoMemory>
-        ensures { IfOk result (λ c. c ≡ self.now) }
-    {
-        Ok(Self::of(Vec::from_slice(*self.list.allocator(), &self.list)?))
-    }
-}
+pub type Commands = List<Command>;
 
 /// A list of programs.
-#[derive(Debug, Drop)]
-pub struct Programs {
-    list: Vec<Program>,
-}
-
-impl Model for Programs {
-    ghost use Rattle.std.specs.Prelude.{List};
-    ghost use Rattle.neph_model.specs.declared.script.Program.{Program};
-
-    ghost Value = { List Program };
-
-    ghost view = { λ a. a.list.items };
-}
-
-impl Programs {
-    /// The list of these programs.
-    pub fn of(list: Vec<Program>) -> Self
-        ensures { result ≡ list.items }
-    {
-        Programs { list }
-    }
-
-    /// The programs.
-    pub fn items(&self) -> &[Program]
-        ensures { result.now ≡ self.now }
-    {
-        &self.list
-    }
-
-    /// The same list again, in memory of its own.
-    pub fn copy(&self) -> Result<Self, NoMemory>
-        ensures { IfOk result (λ c. c ≡ self.now) }
-    {
-        let mut list = Vec::with_capacity(*self.list.allocator(), self.list.len())?;
-        for item in &self.list {
-            list.push(item.copy()?)?;
-        }
-        Ok(Self::of(list))
-    }
-}
+pub type Programs = List<Program>;
 
 /// A list of starting domains.
-#[derive(Debug, Drop)]
-pub struct Starts {
-    list: Vec<Start>,
-}
-
-impl Model for Starts {
-    ghost use Rattle.std.specs.Prelude.{List};
-    ghost use Rattle.neph_model.specs.declared.script.Start.{Start};
-
-    ghost Value = { List Start };
-
-    ghost view = { λ a. a.list.items };
-}
-
-impl Starts {
-    /// The list of these starting domains.
-    pub fn of(list: Vec<Start>) -> Self
-        ensures { result ≡ list.items }
-    {
-        Starts { list }
-    }
-
-    /// The starting domains.
-    pub fn items(&self) -> &[Start]
-        ensures { result.now ≡ self.now }
-    {
-        &self.list
-    }
-
-    /// The same list again, in memory of its own.
-    pub fn copy(&self) -> Result<Self, NoMemory>
-        ensures { IfOk result (λ c. c ≡ self.now) }
-    {
-        Ok(Self::of(Vec::from_slice(*self.list.allocator(), &self.list)?))
-    }
-}
+pub type Starts = List<Start>;
 
 /// A list of labels.
-#[derive(Debug, Drop)]
-pub struct Labels {
-    list: Vec<Label>,
-}
-
-impl Model for Labels {
-    ghost use Rattle.std.specs.Prelude.{List};
-    ghost use Rattle.neph_model.specs.declared.script.Label.{Label};
-
-    ghost Value = { List Label };
-
-    ghost view = { λ a. a.list.items };
-}
-
-impl Labels {
-    /// The list of these labels.
-    pub fn of(list: Vec<Label>) -> Self
-        ensures { result ≡ list.items }
-    {
-        Labels { list }
-    }
-
-    /// The labels.
-    pub fn items(&self) -> &[Label]
-        ensures { result.now ≡ self.now }
-    {
-        &self.list
-    }
-
-    /// The same list again, in memory of its own.
-    pub fn copy(&self) -> Result<Self, NoMemory>
-        ensures { IfOk result (λ c. c ≡ self.now) }
-    {
-        let mut list = Vec::with_capacity(*self.list.allocator(), self.list.len())?;
-        for item in &self.list {
-            list.push(item.copy()?)?;
-        }
-        Ok(Self::of(list))
-    }
-}
+pub type Labels = List<Label>;
 
 /// A list of actors.
-#[derive(Debug, Drop)]
-pub struct Actors {
-    list: Vec<Actor>,
-}
-
-impl Model for Actors {
-    ghost use Rattle.std.specs.Prelude.{List};
-    ghost use Rattle.neph_base.specs.declared.reply.Actor.{Actor};
-
-    ghost Value = { List Actor };
-
-    ghost view = { λ a. a.list.items };
-}
-
-impl Actors {
-    /// The list of these actors.
-    pub fn of(list: Vec<Actor>) -> Self
-        ensures { result ≡ list.items }
-    {
-        Actors { list }
-    }
-
-    /// The actors.
-    pub fn items(&self) -> &[Actor]
-        ensures { result.now ≡ self.now }
-    {
-        &self.list
-    }
-
-    /// The same list again, in memory of its own.
-    pub fn copy(&self) -> Result<Self, NoMemory>
-        ensures { IfOk result (λ c. c ≡ self.now) }
-    {
-        Ok(Self::of(Vec::from_slice(*self.list.allocator(), &self.list)?))
-    }
-}
+pub type Actors = List<Actor>;

@@ -4,7 +4,7 @@ use Rattle.std.proofs.lemmas.List.{length-replicate, get_or-set_other, get_or-se
 use Rattle.std.proofs.lemmas.List.Sums.{sum_by-set, sum_by-cons}
 use Rattle.std.proofs.lemmas.List.Folds.{sum_by-replicate}
 use Rattle.std.proofs.lemmas.Bool.{eqb-true}
-use Rattle.neph_pool.specs.declared.entry.Hold.TheVariants.{Sole, Counted}
+use Rattle.neph_pool.specs.declared.entry.Hold.TheVariants.{Zero, Sole, Counted}
 use Rattle.neph_pool.specs.declared.owners.Owners.{Owners}
 use Rattle.neph_pool.specs.declared.owners.Owners.TheVariants.{Spare, Alone, Many}
 use Rattle.neph_pool.specs.Entries.{weight_of}
@@ -114,3 +114,24 @@ only_others (Many ws) row r t h n =
     let all : sum ws.by_row ≡ 1 = sym ws.counted ∙ t in
     let none : get_or ws.by_row r 0 ≡ 0 = omega (arith, two_within ws.by_row row r n) in
     rw (none_else row r n) (sym (counted_none (get_or ws.by_row r 0) none))
+
+-- a frame that a row has to itself has one reference
+pub sole_total : (r : ℕ) (o : Owners) → held_by r o ≡ Some Sole → total_of o ≡ 1
+sole_total r (Spare q) e = absurd (spare (r == q) e) where
+  spare : (b : Bool) → (if b then Some Zero else None) ≡ Some Sole → ⊥
+  spare true h = cc
+  spare false h = cc
+sole_total r (Alone q) e = refl
+sole_total r (Many ws) e = absurd (many (get_or ws.by_row r 0 == 0) (get_or ws.by_row r 0) e) where
+  many : (b : Bool) (n : ℕ) → (if b then None else Some (Counted n)) ≡ Some Sole → ⊥
+  many true n h = cc
+  many false n h = cc
+
+-- a frame of which a row has a reference has some
+pub some_total : (r : ℕ) (o : Owners) → weight_of (held_by r o) ≡ 1 → 1 ≤ total_of o
+some_total r (Spare q) e = absurd (spare (r == q) e) where
+  spare : (b : Bool) → weight_of (if b then Some Zero else None) ≡ 1 → ⊥
+  spare true h = omega arith
+  spare false h = omega arith
+some_total r (Alone q) e = omega arith
+some_total r (Many ws) e = let k = ws.some in omega arith

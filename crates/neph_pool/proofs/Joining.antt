@@ -1,5 +1,5 @@
 -- Two seats of the plain pool become one.
-use Rattle.std.proofs.Common.{◌≡◌, ◌≢◌, ℕ, zero, suc, ◌+◌, ◌*◌, ◌<◌, ◌≤◌, ◌⊎◌, inl, inr, Bool, true, false, ◌||◌, List, [], ◌∷◌, length, get_or, Some, None, refl, sym, ap, ◌∙◌, subst, arith, eq-eqb, ne_eqb, ◌==◌, if◌then◌else◌}
+use Rattle.std.proofs.Common.{◌≡◌, ◌≢◌, ℕ, zero, suc, ◌+◌, ◌*◌, ◌<◌, ◌≤◌, ◌⊎◌, inl, inr, Bool, true, false, ◌||◌, List, [], ◌∷◌, length, map, get_or, Some, None, refl, sym, ap, ◌∙◌, subst, arith, eq-eqb, ne_eqb, ◌==◌, if◌then◌else◌}
 use Rattle.std.proofs.lemmas.List.Sums.{sum_by-cons}
 use Rattle.std.proofs.lemmas.Bool.{eqb-true}
 use Rattle.std.specs.List.{range_with_len, count_by}
@@ -9,7 +9,8 @@ use Rattle.neph_pool.specs.declared.entry.Hold.{Hold}
 use Rattle.neph_pool.specs.declared.entry.Hold.TheVariants.{Zero, Sole, Counted}
 use Rattle.neph_pool.specs.declared.owners.Owners.{Owners}
 use Rattle.neph_pool.specs.declared.owners.Owners.TheVariants.{Spare, Alone, Many}
-use Rattle.neph_pool.specs.declared.plain_frame.PlainFrame.{PlainFrame}
+use Rattle.std.proofs.Math.ListN.{get_or-map}
+use Rattle.neph_pool.specs.Frames.{PlainFrame, blank_frame, frame_at}
 use Rattle.neph_pool.specs.declared.plain_pool.PlainPool.{PlainPool}
 use Rattle.neph_pool.specs.declared.plain_pool.PlainSeat.{PlainSeat}
 use Rattle.neph_pool.specs.Entries.{entry_as, entry_count, hold_at, is_entry, is_here, is_whole}
@@ -17,10 +18,10 @@ use Rattle.neph_pool.specs.Handing.{nothing, either_entry, add_entries}
 use Rattle.neph_pool.specs.Names.{IsApart, both_names, name_count}
 use Rattle.neph_pool.specs.Owners.{held_by}
 use Rattle.neph_pool.specs.World.{Spares}
-use Rattle.neph_pool.specs.Rows.{entry_of, row_entries, row_of, names_of, IsTable, IsRenaming}
+use Rattle.neph_pool.specs.Rows.{entry_of, row_entries, row_of, names_of, words_in_frame, IsTable, IsRenaming}
 use Rattle.neph_pool.specs.Plain.{IsKept, PlainFits, plain_names, plain_world}
 use Rattle.neph_pool.specs.PlainLaws.{same_count}
-use Rattle.neph_pool.proofs.Rows.{count_cons, same_or_not, row_apart, row_hold, apart_left, apart_right, or_right}
+use Rattle.neph_pool.proofs.Rows.{AreCounts, count_cons, same_or_not, row_apart, row_hold, apart_left, apart_right, or_right}
 use Rattle.neph_pool.proofs.Tables.{count_nothing}
 
 -- a whole frame of one row is nobody else's
@@ -97,16 +98,50 @@ pub name_count-both : (ms ns : ℕ → Bool) → IsApart ms ns → name_count (b
 unfolding name_count
 name_count-both ms ns h = count_both ms ns (range_with_len 0 64) h
 
+apart_bits : (s o : ℕ) (x : PlainFrame) → s ≢ o → (is_here (held_by o x.owners) ≡ true → is_whole (held_by o x.owners) ≡ true)
+    → (if is_entry (either_entry (entry_of s x) (entry_of o x)) then 1 else 0) ≡ (if is_entry (entry_of s x) then 1 else 0) + (if is_entry (entry_of o x) then 1 else 0)
+unfolding entry_of
+apart_bits s o x ne w = bits_as (held_by s x.owners) (held_by o x.owners) x.words (λ h. whole_else x.owners s o h (w h) ne)
+  where
+    bits_as : (h k : Option Hold) (ws : List ℕ) → (is_here k ≡ true → h ≡ None) → (if is_entry (either_entry (entry_as h ws) (entry_as k ws)) then 1 else 0) ≡ (if is_entry (entry_as h ws) then 1 else 0) + (if is_entry (entry_as k ws) then 1 else 0)
+    bits_as None None ws n = refl
+    bits_as None (Some k) ws n = refl
+    bits_as (Some h) None ws n = refl
+    bits_as (Some h) (Some k) ws n = let no : Some h ≡ None = n refl in absurd (cc)
+
+count_rows : (s o : ℕ) (xs : List PlainFrame) → s ≢ o → ((k : ℕ) (d : PlainFrame) → k < length xs → is_here (held_by o (get_or xs k d).owners) ≡ true → is_whole (held_by o (get_or xs k d).owners) ≡ true)
+    → entry_count (add_entries (row_entries s xs) (row_entries o xs)) ≡ entry_count (row_entries s xs) + entry_count (row_entries o xs)
+unfolding add_entries
+count_rows s o [] ne w = refl
+count_rows s o (x ∷ xs) ne w =
+    omega (
+      arith,
+      count_cons (either_entry (entry_of s x) (entry_of o x)) (add_entries (row_entries s xs) (row_entries o xs)),
+      count_cons (entry_of s x) (row_entries s xs),
+      count_cons (entry_of o x) (row_entries o xs),
+      apart_bits s o x ne (w zero x (omega arith)),
+      count_rows s o xs ne (λ k d lt. w (suc k) d (omega arith)),
+    )
+
+-- two rows in one have as many entries as both
+pub count_joined : (s o : ℕ) (xs : List PlainFrame) → s ≢ o → IsWholeRow o xs → entry_count (add_entries (row_entries s xs) (row_entries o xs)) ≡ entry_count (row_entries s xs) + entry_count (row_entries o xs)
+count_joined s o xs ne w = count_rows s o xs ne (λ k d lt h. whole_at o xs k (get_or xs k d) w lt (refl_at xs k d lt) h)
+
 -- what the loops of a join leave
 pub record IsJoined (p q : PlainPool) (s o t : PlainSeat) (from : ℕ) : Type 0 where
   pub choice : IsRenaming s.row o.row from t.row
   pub cap : q.cap ≡ p.cap
-  pub size : q.frames.len ≡ p.frames.len
+  pub size : length q.frames ≡ length p.frames
+  pub words : map words_in_frame q.frames ≡ map words_in_frame p.frames
+  pub moved : get_or q.held t.row 0 ≡ get_or p.held t.row 0 + get_or p.held from 0
+  pub left : get_or q.held from 0 ≡ 0
+  pub stayed : (r : ℕ) → r ≢ from → r ≢ t.row → get_or q.held r 0 ≡ get_or p.held r 0
+  pub whole : IsWholeRow o.row p.frames
   pub named : (d : ℕ) → plain_names t d ≡ (plain_names s d || plain_names o d)
   pub rows : (d : ℕ) → row_of q.rows d ≡ (if plain_names t d then t.row else row_of p.rows d)
-  pub gone : row_entries from q.frames.items ≡ nothing (length p.frames.items)
-  pub joined : row_entries t.row q.frames.items ≡ add_entries (row_entries s.row p.frames.items) (row_entries o.row p.frames.items)
-  pub others : (r : ℕ) → r ≢ from → r ≢ t.row → row_entries r q.frames.items ≡ row_entries r p.frames.items
+  pub gone : row_entries from q.frames ≡ nothing (length p.frames)
+  pub joined : row_entries t.row q.frames ≡ add_entries (row_entries s.row p.frames) (row_entries o.row p.frames)
+  pub others : (r : ℕ) → r ≢ from → r ≢ t.row → row_entries r q.frames ≡ row_entries r p.frames
 
 module _ (p q : PlainPool) (s o t : PlainSeat) (from : ℕ) (h : PlainFits p s) (k : PlainFits p o) (apart : IsApart (plain_names s) (plain_names o)) (j : IsJoined p q s o t from) where
   -- a name of the new seat
@@ -203,22 +238,58 @@ module _ (p q : PlainPool) (s o t : PlainSeat) (from : ℕ) (h : PlainFits p s) 
       same_count (names_of q.rows t.row) (both_names (plain_names s) (plain_names o)) (λ d. sym (table_names d) ∙ j.named d) ∙ name_count-both (plain_names s) (plain_names o) apart
       ∙ ap (λ (n : ℕ). n + name_count (plain_names o)) (same_count (plain_names s) (names_of p.rows s.row) h.names) ∙ ap (λ (n : ℕ). name_count (names_of p.rows s.row) + n) (same_count (plain_names o) (names_of p.rows o.row) k.names)
 
-  capped_to : t.row ≢ 0 → entry_count (row_entries t.row q.frames.items) ≤ p.cap * name_count (names_of q.rows t.row)
+  capped_to : t.row ≢ 0 → entry_count (row_entries t.row q.frames) ≤ p.cap * name_count (names_of q.rows t.row)
   capped_to ne = elim j.choice [
     | inl a ↦
-        let x : entry_count (row_entries s.row p.frames.items) ≤ p.cap * name_count (names_of p.rows s.row) = h.kept.capped s.row (λ z. ne (a.1 ∙ z)) in
-        let y : entry_count (row_entries o.row p.frames.items) ≤ p.cap * name_count (names_of p.rows o.row) = h.kept.capped o.row a.2 in
-        rw (j.joined, both_count) (omega (arith, x, y, count_add (row_entries s.row p.frames.items) (row_entries o.row p.frames.items)))
+        let x : entry_count (row_entries s.row p.frames) ≤ p.cap * name_count (names_of p.rows s.row) = h.kept.capped s.row (λ z. ne (a.1 ∙ z)) in
+        let y : entry_count (row_entries o.row p.frames) ≤ p.cap * name_count (names_of p.rows o.row) = h.kept.capped o.row a.2 in
+        rw (j.joined, both_count) (omega (arith, x, y, count_add (row_entries s.row p.frames) (row_entries o.row p.frames)))
     | inr a ↦ absurd (ne (a.1 ∙ a.2))
   ]
+
+  ne_rows : s.row ≢ o.row
+  ne_rows e = row_apart p s o h k apart (sym e)
+
+  counted_to : get_or q.held t.row 0 ≡ entry_count (row_entries t.row q.frames)
+  counted_to =
+      let all : entry_count (row_entries t.row q.frames) ≡ entry_count (row_entries s.row p.frames) + entry_count (row_entries o.row p.frames) = ap entry_count j.joined ∙ count_joined s.row o.row p.frames ne_rows j.whole in
+      let x = h.kept.held s.row h.row in
+      let y = h.kept.held o.row k.row in
+      elim j.choice [
+        | inl a ↦
+            let u : get_or p.held t.row 0 ≡ get_or p.held s.row 0 = ap (λ (i : ℕ). get_or p.held i 0) a.1 in
+            let v : get_or p.held from 0 ≡ get_or p.held o.row 0 = ap (λ (i : ℕ). get_or p.held i 0) a.0 in
+            omega (arith, j.moved, all, x, y, u, v)
+        | inr a ↦
+            let u : get_or p.held t.row 0 ≡ get_or p.held o.row 0 = ap (λ (i : ℕ). get_or p.held i 0) a.1 in
+            let v : get_or p.held from 0 ≡ get_or p.held s.row 0 = ap (λ (i : ℕ). get_or p.held i 0) a.0 in
+            omega (arith, j.moved, all, x, y, u, v)
+      ]
+
+  joined_held : AreCounts q.held q.frames
+  joined_held r lt = elim (same_or_not r t.row) [
+    | inl e ↦ subst (λ (i : ℕ). get_or q.held i 0 ≡ entry_count (row_entries i q.frames)) (sym e) counted_to
+    | inr m ↦ elim (same_or_not r from) [
+      | inl e ↦ rw (e, j.gone, count_nothing (length p.frames)) j.left
+      | inr n ↦ rw (j.others r n m) (j.stayed r n m ∙ h.kept.held r lt)
+    ]
+  ]
+
+  joined_full : (f : ℕ) → f < length q.frames → length (frame_at q.frames f).words ≡ 512
+  joined_full f lt =
+      ap (λ (ws : List ℕ). length ws) (sym (get_or-map words_in_frame q.frames f blank_frame) ∙ ap (λ (wss : List (List ℕ)). get_or wss f (words_in_frame blank_frame)) j.words ∙ get_or-map words_in_frame p.frames f blank_frame)
+      ∙ h.kept.full f (omega (arith, j.size))
 
   pub joined_kept : IsKept q
   joined_kept = record {
     table = joined_table;
+    few = omega (arith, j.size, h.kept.few);
+    full = joined_full;
+    held = joined_held;
     capped = λ r ne. rw j.cap (elim (same_or_not r t.row) [
-      | inl e ↦ subst (λ (i : ℕ). entry_count (row_entries i q.frames.items) ≤ p.cap * name_count (names_of q.rows i)) (sym e) (capped_to (λ z. ne (e ∙ z)))
+      | inl e ↦ subst (λ (i : ℕ). entry_count (row_entries i q.frames) ≤ p.cap * name_count (names_of q.rows i)) (sym e) (capped_to (λ z. ne (e ∙ z)))
       | inr m ↦ elim (same_or_not r from) [
-        | inl e ↦ rw (e, j.gone, count_nothing (length p.frames.items)) (omega arith)
+        | inl e ↦ rw (e, j.gone, count_nothing (length p.frames)) (omega arith)
         | inr n ↦ rw (j.others r n m, same_count (names_of q.rows r) (names_of p.rows r) (λ d. other_names r d n m)) (h.kept.capped r ne)
       ]
     ]);

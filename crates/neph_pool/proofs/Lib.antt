@@ -1,10 +1,17 @@
 pub mod Entries
+pub mod Walks
+pub mod Spans
 pub mod Holding
 pub mod Calls
 pub mod Rows
+pub mod Words
+pub mod Shown
+pub mod Sharers
 pub mod Tables
 pub mod Transfers
 pub mod Joining
 pub mod Start
 pub mod Telling
 pub mod Parts
+pub mod Exclusive
+pub mod Seats

@@ -1,5 +1,5 @@
 -- What a caller of `hand` shows: that its part may be handed over, and that the cap holds.
-use Rattle.std.proofs.Common.{◌≡◌, ◌≢◌, ℕ, zero, suc, ◌+◌, ◌<◌, ◌≤◌, Bool, true, List, [], ◌∷◌, length, set, get_or, replicate, Some, None, refl, sym, ap, ◌∙◌, arith, if◌then◌else◌}
+use Rattle.std.proofs.Common.{◌≡◌, ◌≢◌, ℕ, zero, suc, ◌+◌, ◌<◌, ◌≤◌, Bool, true, List, [], ◌∷◌, length, set, get_or, replicate, Some, None, refl, ap, ◌∙◌, arith, if◌then◌else◌}
 use Rattle.std.specs.List.{range_with_len, count_by}
 use Rattle.std.proofs.lemmas.List.{get_or-set_other, get_or-set_same}
 use Rattle.std.proofs.lemmas.List.FromFn.{get_or-range_with_len, length-range_with_len}
@@ -8,30 +8,14 @@ use Rattle.std.specs.declared.option.Option.{Option}
 use Rattle.neph_pool.specs.declared.entry.Entry.{Entry}
 use Rattle.neph_pool.specs.declared.entry.Hold.{Hold}
 use Rattle.neph_pool.specs.Names.{name_count}
-use Rattle.neph_pool.specs.Entries.{entry_as, hold_of, words_of, hold_at, words_at, entry_at, is_here, is_whole, is_entry, entry_count}
-use Rattle.neph_pool.specs.Handing.{left_of, left_hold, moved_of, moved_hold, giving, taking, moved_into, MayTake, MayHand, nothing}
+use Rattle.neph_pool.specs.Entries.{entry_as, hold_of, words_of, hold_at, words_at, entry_at, is_here, is_entry, entry_count}
+use Rattle.neph_pool.specs.Handing.{left_of, left_hold, moved_of, moved_hold, giving, taking, AreDistinct, moved_into, nothing}
+use Rattle.neph_pool.proofs.Walks.{walk_moved, moved_walked}
 use Rattle.neph_pool.proofs.Rows.{count_cons}
-
--- each number stands once
-abbrev pub AreDistinct : List ℕ → Type 0
-AreDistinct [] = Unit {0}
-AreDistinct (f ∷ fs) = ((k : ℕ) → k < length fs → get_or fs k 0 ≢ f) × AreDistinct fs
 
 hold_else : (es : List (Option Entry)) (f g : ℕ) (x : Option Entry) → g ≢ f → hold_at (set es f x) g ≡ hold_at es g
 unfolding hold_at
 hold_else es f g x n = ap hold_of (get_or-set_other es f g x None n)
-
-take_still : (es to : List (Option Entry)) (f g : ℕ) → g ≢ f → MayTake es to g → MayTake (giving es f) (taking es to f) g
-take_still es to f g n h = (
-  ap is_here (hold_else es f g (left_of (entry_at es f)) n) ∙ h.0,
-  λ w. ap is_here (hold_else to f g (moved_of (entry_at es f)) n) ∙ h.1 (ap is_whole (sym (hold_else es f g (left_of (entry_at es f)) n)) ∙ w),
-)
-
--- frames that may each be taken at the start may all be handed over
-pub may_hand : (es to : List (Option Entry)) (fs : List ℕ) → AreDistinct fs → ((k : ℕ) → k < length fs → MayTake es to (get_or fs k 0)) → MayHand es to fs
-may_hand es to [] d h = tt
-may_hand es to (f ∷ fs) d h =
-    (h zero (omega arith), may_hand (giving es f) (taking es to f) fs d.1 (λ k lt. take_still es to f (get_or fs k 0) (d.0 k lt) (h (suc k) (omega arith))))
 
 one_most : (x : Option Entry) → (if is_entry x then 1 else 0) ≤ 1
 one_most None = omega arith
@@ -42,10 +26,13 @@ count_set [] f x = omega arith
 count_set (e ∷ es) zero x = omega (arith, count_cons x es, count_cons e es, one_most x)
 count_set (e ∷ es) (suc f) x = omega (arith, count_cons e (set es f x), count_cons e es, count_set es f x)
 
+count_walk : (es to : List (Option Entry)) (fs : List ℕ) → entry_count (walk_moved es to fs) ≤ entry_count to + length fs
+count_walk es to [] = omega arith
+count_walk es to (f ∷ fs) = omega (arith, count_walk (giving es f) (taking es to f) fs, count_set to f (moved_of (entry_at es f)))
+
 -- the taker gains at most an entry a frame
-pub count_moved : (es to : List (Option Entry)) (fs : List ℕ) → entry_count (moved_into es to fs) ≤ entry_count to + length fs
-count_moved es to [] = omega arith
-count_moved es to (f ∷ fs) = omega (arith, count_moved (giving es f) (taking es to f) fs, count_set to f (moved_of (entry_at es f)))
+pub count_moved : (es to : List (Option Entry)) (fs : List ℕ) → AreDistinct fs → entry_count (moved_into es to fs) ≤ entry_count to + length fs
+count_moved es to fs d = rw (← moved_walked es to fs d) (count_walk es to fs)
 
 none_at : (n f : ℕ) → entry_at (nothing n) f ≡ None
 none_at zero f = refl

@@ -60,7 +60,7 @@ no_names : name_count (λ _. false) ≡ 0
 unfolding name_count
 no_names = refl
 
-none_all : (es : List (Option Entry)) → entry_count es ≡ 0 → es ≡ nothing (length es)
+pub none_all : (es : List (Option Entry)) → entry_count es ≡ 0 → es ≡ nothing (length es)
 none_all [] h = refl
 none_all (None ∷ es) h = ap (λ (xs : List (Option Entry)). None ∷ xs) (none_all es (omega (arith, count_cons None es, h)))
 none_all (Some e ∷ es) h = absurd (omega (arith, count_cons (Some e) es, h))
@@ -70,16 +70,16 @@ count_nothing zero = refl
 count_nothing (suc n) = omega (arith, count_cons None (nothing n), count_nothing n)
 
 -- a row without a name has nothing
-pub empty_row : (p : PlainPool) (r : ℕ) → IsKept p → r ≢ 0 → ((e : ℕ) → names_of p.rows r e ≡ false) → row_entries r p.frames.items ≡ nothing p.frames.len
+pub empty_row : (p : PlainPool) (r : ℕ) → IsKept p → r ≢ 0 → ((e : ℕ) → names_of p.rows r e ≡ false) → row_entries r p.frames ≡ nothing (length p.frames)
 empty_row p r k ne none =
     let zeros : name_count (names_of p.rows r) ≡ 0 = same_count (names_of p.rows r) (λ _. false) none ∙ no_names in
-    let most : entry_count (row_entries r p.frames.items) ≤ p.cap * 0 = rw zeros at (k.capped r ne) in
-    none_all (row_entries r p.frames.items) (omega arith) ∙ ap nothing (length-map p.frames.items (entry_of r) ∙ sym p.frames.ok.0)
+    let most : entry_count (row_entries r p.frames) ≤ p.cap * 0 = rw zeros at (k.capped r ne) in
+    none_all (row_entries r p.frames) (omega arith) ∙ ap nothing (length-map p.frames (entry_of r))
 
 -- a seat without a name for its row's number takes a row of its own
 module _ (p : PlainPool) (s : PlainSeat) (h : PlainFits p s) (d : ℕ) (small : d < 64) (ne : d ≢ 0) (first : plain_names s 0 ≡ true) (named : plain_names s d ≡ true) where
   abbrev after : PlainPool
-  after = record { frames = p.frames; rows = set p.rows d d; cap = p.cap; shares = p.shares }
+  after = record { frames = p.frames; rows = set p.rows d d; held = p.held; cap = p.cap; shares = p.shares }
 
   names_row : (b : Bool) (a r : ℕ) → (a == r) ≡ b → b ≡ true → a ≡ r
   names_row true a r e y = eqb-true a r e
@@ -126,8 +126,11 @@ module _ (p : PlainPool) (s : PlainSeat) (h : PlainFits p s) (d : ℕ) (small : 
   pub fresh_kept : IsKept after
   fresh_kept = record {
     table = fresh_table;
+    few = h.kept.few;
+    full = h.kept.full;
+    held = h.kept.held;
     capped = λ r z. elim (same_or_not r d) [
-      | inl q ↦ rw (q, empty_row p d h.kept ne unnamed, count_nothing p.frames.len) (omega arith)
+      | inl q ↦ rw (q, empty_row p d h.kept ne unnamed, count_nothing (length p.frames)) (omega arith)
       | inr n ↦ rw (same_count (names_of (set p.rows d d) r) (names_of p.rows r) (λ e. same_names r e z n)) (h.kept.capped r z)
     ];
   }

@@ -6,7 +6,7 @@ use Rattle.std.proofs.lemmas.List.FromFn.{get_or-range_with_len, length-range_wi
 use Rattle.std.proofs.lemmas.Bool.{eqb-true}
 use Rattle.neph_pool.specs.declared.owners.Owners.{Owners}
 use Rattle.neph_pool.specs.declared.owners.Owners.TheVariants.{Spare, Alone, Many}
-use Rattle.neph_pool.specs.declared.plain_frame.PlainFrame.{PlainFrame}
+use Rattle.neph_pool.specs.Frames.{PlainFrame}
 use Rattle.neph_pool.specs.declared.plain_pool.PlainPool.{PlainPool}
 use Rattle.neph_pool.specs.declared.plain_pool.PlainSeat.{PlainSeat}
 use Rattle.neph_pool.specs.Entries.{is_here, is_entry, entry_count}
@@ -46,7 +46,7 @@ here_one r x h = rw (is_entry-as (held_by r x.owners) x.words, h) refl
 abbrev ids : List ℕ
 ids = range_with_len 0 64
 
-abbrev in_row : List PlainFrame → ℕ → ℕ
+abbrev pub in_row : List PlainFrame → ℕ → ℕ
 in_row xs r = entry_count (row_entries r xs)
 
 abbrev one_in : PlainFrame → ℕ → ℕ
@@ -85,19 +85,19 @@ count_none ns a (suc n) h =
     omega (arith, sum_by-cons (λ (d : ℕ). bit (ns d)) a (range_with_len (a + 1) n), first, count_none ns (a + 1) n (λ d le lt. h d (omega arith) (omega arith)))
 
 -- past the last name there is no row
-no_row_past : (p : PlainPool) (r : ℕ) → IsKept p → 64 ≤ r → in_row p.frames.items r ≡ 0
+pub no_row_past : (p : PlainPool) (r : ℕ) → IsKept p → 64 ≤ r → in_row p.frames r ≡ 0
 unfolding name_count
 no_row_past p r k le =
     let none : name_count (names_of p.rows r) ≡ 0 = count_none (names_of p.rows r) 0 64 (λ d l lt. ne_eqb (row_of p.rows d) r (λ (e : row_of p.rows d ≡ r). let small = k.table.small d (omega (arith, lt)) in omega arith)) in
-    let most : in_row p.frames.items r ≤ p.cap * 0 = rw none at (k.capped r (λ (e : r ≡ 0). omega arith)) in
+    let most : in_row p.frames r ≤ p.cap * 0 = rw none at (k.capped r (λ (e : r ≡ 0). omega arith)) in
     omega arith
 
-capped_rows : (p : PlainPool) (a n : ℕ) → IsKept p → 1 ≤ a → sum_by (in_row p.frames.items) (range_with_len a n) ≤ p.cap * sum_by (λ r. name_count (names_of p.rows r)) (range_with_len a n)
+capped_rows : (p : PlainPool) (a n : ℕ) → IsKept p → 1 ≤ a → sum_by (in_row p.frames) (range_with_len a n) ≤ p.cap * sum_by (λ r. name_count (names_of p.rows r)) (range_with_len a n)
 capped_rows p a zero k le = omega arith
 capped_rows p a (suc n) k le =
-    let one : in_row p.frames.items a ≤ p.cap * name_count (names_of p.rows a) = k.capped a (λ (e : a ≡ 0). omega arith) in
+    let one : in_row p.frames a ≤ p.cap * name_count (names_of p.rows a) = k.capped a (λ (e : a ≡ 0). omega arith) in
     let more = capped_rows p (a + 1) n k (omega arith) in
-    omega (arith, one, more, sum_by-cons (in_row p.frames.items) a (range_with_len (a + 1) n), ap (λ (z : ℕ). p.cap * z) (sum_by-cons (λ (r : ℕ). name_count (names_of p.rows r)) a (range_with_len (a + 1) n)))
+    omega (arith, one, more, sum_by-cons (in_row p.frames) a (range_with_len (a + 1) n), ap (λ (z : ℕ). p.cap * z) (sum_by-cons (λ (r : ℕ). name_count (names_of p.rows r)) a (range_with_len (a + 1) n)))
 
 -- a number is one of a range once at most
 none_from : (k a n : ℕ) → k < a → sum_by (λ r. bit (k == r)) (range_with_len a n) ≡ 0
@@ -146,12 +146,12 @@ mul_le : (c x y : ℕ) → x ≤ y → c * x ≤ c * y
 mul_le c x y h = grind arith
 
 -- each frame is among the entries of this seat, or among those that the cap allows the others
-pub told : (p : PlainPool) (s : PlainSeat) → PlainFits p s → plain_names s 0 ≡ true → length p.frames.items ≤ entry_count (row_entries s.row p.frames.items) + p.cap * lack_count (plain_names s)
+pub told : (p : PlainPool) (s : PlainSeat) → PlainFits p s → plain_names s 0 ≡ true → length p.frames ≤ entry_count (row_entries s.row p.frames) + p.cap * lack_count (plain_names s)
 told p s h named =
     let zero' : s.row ≡ 0 = sym (eqb-true (row_of p.rows 0) s.row (sym (h.names 0) ∙ named)) ∙ h.kept.table.first in
-    let all : length p.frames.items ≤ sum_by (in_row p.frames.items) ids = frames_held p.frames.items (λ r l. no_row_past p r h.kept l) in
-    let split : sum_by (in_row p.frames.items) ids ≡ in_row p.frames.items 0 + sum_by (in_row p.frames.items) (range_with_len 1 63) = sum_by-cons (in_row p.frames.items) 0 (range_with_len 1 63) in
-    let rest : sum_by (in_row p.frames.items) (range_with_len 1 63) ≤ p.cap * sum_by (λ r. name_count (names_of p.rows r)) (range_with_len 1 63) = capped_rows p 1 63 h.kept (omega arith) in
+    let all : length p.frames ≤ sum_by (in_row p.frames) ids = frames_held p.frames (λ r l. no_row_past p r h.kept l) in
+    let split : sum_by (in_row p.frames) ids ≡ in_row p.frames 0 + sum_by (in_row p.frames) (range_with_len 1 63) = sum_by-cons (in_row p.frames) 0 (range_with_len 1 63) in
+    let rest : sum_by (in_row p.frames) (range_with_len 1 63) ≤ p.cap * sum_by (λ r. name_count (names_of p.rows r)) (range_with_len 1 63) = capped_rows p 1 63 h.kept (omega arith) in
     let lack : p.cap * sum_by (λ r. name_count (names_of p.rows r)) (range_with_len 1 63) ≤ p.cap * lack_count (names_of p.rows 0) = mul_le p.cap _ _ (others_lack p.rows) in
     let same : plain_names s ≡ names_of p.rows s.row = λ i d. h.names d i in
     rw (same, zero') (omega (arith, all, split, rest, lack))

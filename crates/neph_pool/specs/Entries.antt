@@ -1,4 +1,5 @@
--- What a seat holds of the machine's frames: a list by frame number, with the hold and the 512 words of each frame that it has.
+-- What a seat holds of the machine's frames: a list by frame number, with the hold and the 512
+-- words of each frame that it has.
 use Rattle.std.specs.Prelude.{◌≡◌, ◌<◌, ◌≤◌, ℕ, Bool, true, false, List, [], length, count_by, slice_index, slice_set, slice_index_or, Some, None}
 use Rattle.std.specs.declared.option.Option.{Option}
 use Rattle.neph_pool.specs.declared.entry.Entry.{Entry}
@@ -77,6 +78,13 @@ is_whole None = false
 is_whole (Some Zero) = true
 is_whole (Some Sole) = true
 is_whole (Some (Counted n)) = false
+
+-- the entry is one of references that are counted
+abbrev pub is_counted : Option Hold → Bool
+is_counted None = false
+is_counted (Some Zero) = false
+is_counted (Some Sole) = false
+is_counted (Some (Counted n)) = true
 
 -- the references of the frame that the seat holds
 abbrev pub weight_of : Option Hold → ℕ

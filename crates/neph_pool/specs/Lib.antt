@@ -1,8 +1,14 @@
 pub mod Entries
 pub mod Handing
 pub mod Names
+pub mod Bytes
 pub mod World
 pub mod Owners
+pub mod Page
+pub mod Frames
+pub mod Holders
+pub mod Pages
 pub mod Rows
 pub mod Plain
+pub mod Seats
 pub mod PlainLaws

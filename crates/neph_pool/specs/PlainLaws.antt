@@ -6,7 +6,7 @@ use Rattle.neph_pool.specs.declared.entry.Hold.{Hold}
 use Rattle.neph_pool.specs.declared.entry.Hold.TheVariants.{Zero, Sole, Counted}
 use Rattle.neph_pool.specs.declared.owners.Owners.{Owners}
 use Rattle.neph_pool.specs.declared.owners.Owners.TheVariants.{Spare, Alone, Many}
-use Rattle.neph_pool.specs.declared.plain_frame.PlainFrame.{PlainFrame}
+use Rattle.neph_pool.specs.Frames.{PlainFrame, frame_at}
 use Rattle.neph_pool.specs.declared.plain_pool.PlainPool.{PlainPool}
 use Rattle.neph_pool.specs.declared.plain_pool.PlainSeat.{PlainSeat}
 use Rattle.neph_pool.specs.Entries.{IsShaped, entry_as, hold_of, words_of, hold_at, words_at, is_here, is_held, weight_of}
@@ -19,11 +19,11 @@ words_as : (h : Option Hold) (ws : List ℕ) → is_here (hold_of (entry_as h ws
 words_as None ws e = cc
 words_as (Some h) ws e = refl
 
-words_of_row : (r : ℕ) (xs : List PlainFrame) (f : ℕ) → is_here (hold_at (map (entry_of r) xs) f) ≡ true → length (words_at (map (entry_of r) xs) f) ≡ 512
+words_of_row : (r : ℕ) (xs : List PlainFrame) (f : ℕ) → ((g : ℕ) → g < length xs → length (frame_at xs g).words ≡ 512) → is_here (hold_at (map (entry_of r) xs) f) ≡ true → length (words_at (map (entry_of r) xs) f) ≡ 512
 unfolding hold_at words_at entry_of
-words_of_row r [] f h = cc
-words_of_row r (x ∷ xs) zero h = rw (words_as (held_by r x.owners) x.words h) x.full
-words_of_row r (x ∷ xs) (suc f) h = words_of_row r xs f h
+words_of_row r [] f full h = cc
+words_of_row r (x ∷ xs) zero full h = rw (words_as (held_by r x.owners) x.words h) (full zero (omega arith))
+words_of_row r (x ∷ xs) (suc f) full h = words_of_row r xs f (λ g lt. full (suc g) (omega arith)) h
 
 some_spare : (b : Bool) → is_held (if b then Some Zero else None) ≡ true → 0 < weight_of (if b then Some Zero else None)
 some_spare true h = absurd (cc)
@@ -78,10 +78,10 @@ most_of_row r (x ∷ xs) (suc f) = most_of_row r xs f
 
 pub plain_shaped : (p : PlainPool) (s : PlainSeat) → plain_world.fits p s → IsShaped (plain_world.frames p) (plain_world.entries p s)
 plain_shaped p s h = record {
-  places = length-map p.frames.items (entry_of s.row) ∙ sym p.frames.ok.0;
-  words = words_of_row s.row p.frames.items;
-  some = some_of_row s.row p.frames.items;
-  most = most_of_row s.row p.frames.items;
+  places = length-map p.frames (entry_of s.row);
+  words = λ f. words_of_row s.row p.frames f h.kept.full;
+  some = some_of_row s.row p.frames;
+  most = most_of_row s.row p.frames;
 }
 
 -- the same names have the same count

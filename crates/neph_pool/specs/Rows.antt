@@ -2,7 +2,7 @@
 use Rattle.std.specs.Prelude.{◌≡◌, ◌≢◌, ◌==◌, ◌<◌, ◌⊎◌, ℕ, Bool, List, map, replicate, slice_index_or, Some}
 use Rattle.std.specs.declared.option.Option.{Option}
 use Rattle.neph_pool.specs.declared.entry.Entry.{Entry}
-use Rattle.neph_pool.specs.declared.plain_frame.PlainFrame.{PlainFrame}
+use Rattle.neph_pool.specs.Frames.{PlainFrame}
 use Rattle.neph_pool.specs.declared.entry.Hold.TheVariants.{Zero}
 use Rattle.neph_pool.specs.Entries.{entry_as}
 use Rattle.neph_pool.specs.Owners.{held_by, total_of}
@@ -18,6 +18,10 @@ row_entries r xs = map (entry_of r) xs
 -- the count of references of a frame
 abbrev pub total_at : PlainFrame → ℕ
 total_at x = total_of x.owners
+
+-- the words of a frame
+abbrev pub words_in_frame : PlainFrame → List ℕ
+words_in_frame x = x.words
 
 -- the row of the seat that has the name d; past the last name no row
 abbrev pub row_of : List ℕ → ℕ → ℕ
@@ -35,7 +39,8 @@ pub record IsTable (rows : List ℕ) : Type 0 where
 
 -- where two seats become one, the row `from` goes into the row `to`, and row 0 stays
 abbrev pub IsRenaming : ℕ → ℕ → ℕ → ℕ → Type 0
-IsRenaming row other from to = ((from ≡ other) × (to ≡ row) × (other ≢ 0)) ⊎ ((from ≡ row) × (to ≡ other) × (other ≡ 0))
+IsRenaming row other from to =
+    ((from ≡ other) × (to ≡ row) × (other ≢ 0)) ⊎ ((from ≡ row) × (to ≡ other) × (other ≡ 0))
 
 -- a frame of zeros that nobody refers to
 unfoldable pub blank_entry : Option Entry

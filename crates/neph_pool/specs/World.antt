@@ -2,7 +2,7 @@
 use Rattle.std.specs.Prelude.{◌≡◌, ℕ, Bool, List, slice_index, slice_set, Some, None}
 use Rattle.std.specs.declared.option.Option.{Option}
 use Rattle.neph_pool.specs.declared.entry.Entry.{Entry}
-use Rattle.neph_pool.specs.Names.{IsApart, only_name}
+use Rattle.neph_pool.specs.Names.{IsNamed, IsApart, only_name}
 use Rattle.neph_pool.specs.Handing.{nothing}
 
 -- how the states of a pool and of its seats are read
@@ -25,6 +25,10 @@ pub record World (Pool Seat : Type 0) : Type 1 where
   pub told : Pool → Option (List ℕ)
 
 module _ {Pool Seat : Type 0} (W : World Pool Seat) where
+  -- a seat of this pool, with a name
+  abbrev pub IsSeat : Pool → Seat → Type 0
+  IsSeat p s = W.fits p s × IsNamed (W.names s)
+
   -- a seat of a call still fits and keeps its names
   pub record Stays (q : Pool) (s t : Seat) : Type 0 where
     pub fits : W.fits q t

@@ -2,9 +2,9 @@
 ghost use Rattle.std.specs.Prelude.{◌≡◌, ◌++◌, ◌∷◌, OnOk, IfSome, IfNone, Some, None, unwrap_or};
 ghost use Rattle.std.specs.Option.{option_copied};
 ghost use Rattle.neph_base.specs.declared.command.Command.TheVariants.{Exit};
-ghost use Rattle.neph_model.specs.Machine.{command_in};
+ghost use Rattle.neph_model.specs.Programs.{command_in};
 ghost use Rattle.neph_model.specs.Words.{command_words, label_name, mode_word, spaced};
-ghost use Rattle.neph_model.specs.Transcript.{command_text, family_program, program_of};
+ghost use Rattle.neph_model.specs.Transcript.{command_text, family_program, program_started};
 
 use crate::basic::{put_hex, put_labelled, put_number, put_word};
 use neph_base::{Command, Mode, NoMemory};

@@ -89,6 +89,8 @@ fn put_refusal(text: &mut Vec<u8>, why: Refusal) -> Result<(), NoMemory>
         Refusal::NoFrame => put_word(text, b"noframe"),
         Refusal::Limit => put_word(text, b"limit"),
         Refusal::Ids => put_word(text, b"ids"),
+        Refusal::PolicyNet => put_word(text, b"policy net"),
+        Refusal::PolicyP9 => put_word(text, b"policy p9"),
         Refusal::Frames { need, free } => {
             put_labelled(text, b"frames ", need)?;
             put_labelled(text, b" ", free)

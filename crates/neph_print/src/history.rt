@@ -1,6 +1,7 @@
 // The lines of a history.
 ghost use Rattle.std.specs.Prelude.{◌≡◌, ◌++◌, ◌<◌, length, OnOk};
-ghost use Rattle.neph_model.specs.Transcript.{domain_of, families_after, history_text, start_families};
+ghost use Rattle.neph_model.specs.Step.{actor, child_made};
+ghost use Rattle.neph_model.specs.Transcript.{families_after, history_text, start_families};
 
 use crate::entry::put_entry_line;
 use neph_base::{Entry, NoMemory, Noted, Reply};
@@ -12,7 +13,7 @@ pub fn put_history(text: &mut Vec<u8>, s: &Script, history: &[Noted]) -> Result<
 {
     let mut families = start_families();
     for noted in history {
-        let family = families[domain_of(noted.entry)];
+        let family = families[actor_of(noted.entry)];
         put_entry_line(text, s, family, noted.entry, noted.reply)?;
         note_child(&mut families, noted.entry, noted.reply);
     }
@@ -30,8 +31,9 @@ fn start_families() -> [u8; 64]
     families
 }
 
-fn domain_of(entry: Entry) -> usize
-    ensures value { result ≡ domain_of entry }
+// Whose entry it is, 0 for the daemon.
+fn actor_of(entry: Entry) -> usize
+    ensures value { result ≡ actor entry }
     ensures range { result < 64 }
 {
     match entry {
@@ -40,9 +42,9 @@ fn domain_of(entry: Entry) -> usize
     }
 }
 
-// A commit gives the child the family of its parent.
+// The child that a commit makes has the family of its parent.
 fn note_child(families: &mut [u8; 64], entry: Entry, reply: Reply)
-    ensures after { families.new ≡ families_after families.old entry reply }
+    ensures after { families.new ≡ families_after families.old (actor entry) (child_made entry reply) }
 {
     let Entry::Commit { dom, .. } = entry else {
         return;

@@ -9,6 +9,6 @@ mod history;
 mod whole;
 
 pub use entry::entry_line;
-pub use frames::{FrameCounts, frames_line};
-pub use history::put_history;
+pub use frames::frames_line;
+pub use neph_model::FrameCounts;
 pub use whole::transcript;

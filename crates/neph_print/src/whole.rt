@@ -1,17 +1,14 @@
 // The whole transcript.
 ghost use Rattle.std.specs.Prelude.{◌≡◌, IfOk};
-ghost use Rattle.neph_model.specs.Books.{counts};
-ghost use Rattle.neph_model.specs.Run.{Ran};
 ghost use Rattle.neph_model.specs.Transcript.{transcript};
-ghost use Rattle.neph_print.specs.Parts.{parts_text, shown};
 
-use crate::frames::{FrameCounts, put_frames_line};
+use crate::frames::put_frames_line;
 use crate::history::put_history;
 use neph_base::{NoMemory, Noted};
-use neph_model::Script;
+use neph_model::{FrameCounts, Script};
 use std::alloc::Global;
 
-/// The transcript of a run: the entries that it made, what the frames were used for at its end, and whether it stalled.
+/// The transcript of a script's history, with what the frames were used for at its end, and whether it stalled.
 pub fn transcript(
     alloc: Global,
     s: &Script,
@@ -19,8 +16,7 @@ pub fn transcript(
     frames: &FrameCounts,
     stalled: bool,
 ) -> Result<Vec<u8>, NoMemory>
-    ensures text { IfOk result (λ text. text.items ≡ parts_text s.now history.now frames.now stalled) }
-    ensures run { IfOk result (λ text. (r : Ran) → history.now ≡ r.history → frames.now ≡ shown (counts s.now r.last) → stalled ≡ r.stalled → text.items ≡ transcript s.now r) }
+    ensures { IfOk result (λ text. text.items ≡ transcript s.now history.now frames.now stalled) }
 {
     let mut text = Vec::new(alloc);
     text.extend_from_slice(b"transcript 1\n")?;

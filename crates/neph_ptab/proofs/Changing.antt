@@ -8,7 +8,7 @@ use Rattle.neph_pool.proofs.Entries.{hold_at-with_words, words_at-with_words, wo
 use Rattle.neph_pool.proofs.Rows.{same_or_not}
 use Rattle.neph_ptab.specs.declared.walk.Walk.{Walk}
 use Rattle.neph_ptab.specs.declared.walk.Walk.TheVariants.{None as Unmapped}
-use Rattle.neph_ptab.specs.Bits.{leaf_in, root_word, walk_in, walk_word, InRange}
+use Rattle.neph_ptab.specs.Bits.{leaf_in, root_word, walk_in, walk_word, InRange, NotBoth}
 use Rattle.neph_ptab.specs.Tables.{leaf_at, walk_by, walk_at, IsTable, IsTables, zero_words}
 use Rattle.neph_ptab.proofs.Spelling.{leaf_back, walk_back}
 use Rattle.neph_ptab.proofs.Wiping.{zero_at}
@@ -58,11 +58,12 @@ module _ (es fs : List (Option Entry)) (root : ℕ) (t : IsTables es root) (b : 
     apart = λ i j f li lj e d. t.apart i j f li lj (was i f e) (was j f d);
     words = λ i f w li lw e. rw (leaf_same i f w li (was i f e)) (t.words i f w li lw (was i f e));
     ranges = λ i f w li lw e. rw (leaf_same i f w li (was i f e)) (t.ranges i f w li lw (was i f e));
+    either = λ i f w li lw e. rw (leaf_same i f w li (was i f e)) (t.either i f w li lw (was i f e));
   }
 
 -- a word of one leaf changes
 module _ (es : List (Option Entry)) (root : ℕ) (t : IsTables es root) (at : ℕ) (place : ℕ) (leaf : ℕ) (la : at < 512) (is : leaf_at es root at ≡ Some leaf) (lp : place < length (words_at es leaf))
-    (to : Walk) (range : InRange to) where
+    (to : Walk) (range : InRange to) (once : NotBoth to) where
   abbrev fs : List (Option Entry)
   fs = with_word es leaf place (walk_word to)
 
@@ -97,8 +98,8 @@ module _ (es : List (Option Entry)) (root : ℕ) (t : IsTables es root) (at : �
   old i f e = sym (set_leaves i) ∙ e
 
   -- a word of a leaf is the new one, or is as before
-  either : (i f w : ℕ) → i < 512 → leaf_at es root i ≡ Some f → ((i ≡ at) × (w ≡ place) × (word_at fs f w ≡ walk_word to)) ⊎ (((i ≢ at) ⊎ (w ≢ place)) × (word_at fs f w ≡ word_at es f w))
-  either i f w li e = elim (same_or_not f leaf) [
+  word_is : (i f w : ℕ) → i < 512 → leaf_at es root i ≡ Some f → ((i ≡ at) × (w ≡ place) × (word_at fs f w ≡ walk_word to)) ⊎ (((i ≢ at) ⊎ (w ≢ place)) × (word_at fs f w ≡ word_at es f w))
+  word_is i f w li e = elim (same_or_not f leaf) [
     | inr n ↦ inr (inl (λ (q : i ≡ at). n (some_same f leaf (sym e ∙ ap (λ (k : ℕ). leaf_at es root k) q ∙ is))), ap (λ (ws : List ℕ). get_or ws w 0) (words_else f n))
     | inl q ↦ elim (same_or_not w place) [
       | inl p ↦ inl (t.apart i at leaf li la (e ∙ ap (λ (k : ℕ). Some k) q) is, p, rw (q, p) word_here)
@@ -114,13 +115,17 @@ module _ (es : List (Option Entry)) (root : ℕ) (t : IsTables es root) (at : �
     numbers = λ i f lt e. t.numbers i f lt (old i f e);
     below = λ i f lt e. t.below i f lt (old i f e);
     apart = λ i j f li lj e d. t.apart i j f li lj (old i f e) (old j f d);
-    words = λ i f w li lw e. elim (either i f w li (old i f e)) [
+    words = λ i f w li lw e. elim (word_is i f w li (old i f e)) [
       | inl x ↦ rw (x.2, walk_back to range) refl
       | inr x ↦ rw x.1 (t.words i f w li lw (old i f e))
     ];
-    ranges = λ i f w li lw e. elim (either i f w li (old i f e)) [
+    ranges = λ i f w li lw e. elim (word_is i f w li (old i f e)) [
       | inl x ↦ rw (x.2, walk_back to range) range
       | inr x ↦ rw x.1 (t.ranges i f w li lw (old i f e))
+    ];
+    either = λ i f w li lw e. elim (word_is i f w li (old i f e)) [
+      | inl x ↦ rw (x.2, walk_back to range) once
+      | inr x ↦ rw x.1 (t.either i f w li lw (old i f e))
     ];
   }
 
@@ -128,7 +133,7 @@ module _ (es : List (Option Entry)) (root : ℕ) (t : IsTables es root) (at : �
   walk_set v u ea ep h None e =
       let n : u ≢ v = (λ (q : u ≡ v). let none : leaf_at es root at ≡ None = ap (λ (k : ℕ). leaf_at es root k) (sym ea ∙ ap (λ (k : ℕ). k / 512) (sym q)) ∙ e in absurd (cc)) in
       rw (ne_eqb u v n) refl
-  walk_set v u ea ep h (Some f) e = elim (either (u / 512) f (u % 512) (place_small u h) e) [
+  walk_set v u ea ep h (Some f) e = elim (word_is (u / 512) f (u % 512) (place_small u h) e) [
     | inl x ↦
         let q : u ≡ v = omega (arith, x.0, x.1) in
         rw (eq-eqb u v q, x.2) (walk_back to range)
@@ -167,6 +172,7 @@ module _ (es : List (Option Entry)) (root : ℕ) (sole : IsSoleAt es root) where
     apart = λ i j f li lj e d. absurd (no_leaf i f e);
     words = λ i f w li lw e. absurd (no_leaf i f e);
     ranges = λ i f w li lw e. absurd (no_leaf i f e);
+    either = λ i f w li lw e. absurd (no_leaf i f e);
   }
 
 -- a new leaf, in a frame of zeros that is no table yet
@@ -266,7 +272,17 @@ module _ (es : List (Option Entry)) (root : ℕ) (t : IsTables es root) (at : �
       | inl x ↦ rw (x.1, empty w) tt
       | inr x ↦ rw (old_word i f w li x.1) (zt.ranges i f w li lw x.1)
     ];
+    either = λ i f w li lw e. elim (which i f li e) [
+      | inl x ↦ rw (x.1, empty w) tt
+      | inr x ↦ rw (old_word i f w li x.1) (zt.either i f w li lw x.1)
+    ];
   }
+
+  pub leaf_holds : (f : ℕ) → hold_at ls f ≡ hold_at es f
+  leaf_holds f = l_holds f ∙ hold_at-with_words es frame zero_words f
+
+  pub leaf_words : (f : ℕ) → f ≢ root → f ≢ frame → words_at ls f ≡ words_at es f
+  leaf_words f n m = l_words f n ∙ words_at-with_words_other es frame zero_words f m
 
   pub leaf_leaves : (i : ℕ) → leaf_at ls root i ≡ (if i == at then Some frame else leaf_at es root i)
   leaf_leaves i = elim (same_or_not i at) [
@@ -290,6 +306,3 @@ module _ (es : List (Option Entry)) (root : ℕ) (t : IsTables es root) (at : �
 
 pub same_word : (es fs : List (Option Entry)) (f p q x y : ℕ) → es ≡ fs → p ≡ q → x ≡ y → with_word es f p x ≡ with_word fs f q y
 same_word es fs f p q x y e i w = ap (λ (zs : List (Option Entry)). with_word zs f p x) e ∙ ap (λ (k : ℕ). with_word fs f k x) i ∙ ap (λ (k : ℕ). with_word fs f q k) w
-
-pub same_walk : (es fs : List (Option Entry)) (root top u : ℕ) → es ≡ fs → root ≡ top → walk_at es root u ≡ walk_at fs top u
-same_walk es fs root top u e r = ap (λ (zs : List (Option Entry)). walk_at zs root u) e ∙ ap (λ (k : ℕ). walk_at fs k u) r

@@ -1,3 +1,4 @@
 pub mod Spelling
 pub mod Wiping
 pub mod Changing
+pub mod Retabling

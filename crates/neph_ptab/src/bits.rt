@@ -3,7 +3,23 @@ ghost use Rattle.std.specs.Prelude.{◌≡◌, ◌+◌, ◌*◌, ◌/◌, ◌%�
 ghost use Rattle.neph_ptab.specs.Bits.{has_bit, number_in, digit, leaf_in, root_word, walk_in, walk_word, InRange};
 
 use crate::walk::Walk;
-use neph_base::{FrameNo, Pfn, Vpn};
+use neph_base::{FrameNo, MAX_FRAMES, MAX_PAGES, Pfn, TABLE_ENTRIES, Vpn};
+
+/// The bit of an entry that leads somewhere (Xen's `_PAGE_PRESENT`).
+pub const PRESENT: u32 = 0;
+
+/// The bit of an entry through which may be written (Xen's `_PAGE_RW`).
+pub const RW: u32 = 1;
+
+/// The first bit that is left to software (Xen's `_PAGE_AVAIL0`): a page that is wanted writable,
+/// but may not be written at once.
+pub const AVAIL0: u32 = 9;
+
+/// The second bit that is left to software (Xen's `_PAGE_AVAIL1`): an exposed page.
+pub const AVAIL1: u32 = 10;
+
+/// The first bit of a frame's number (Xen's `PAGE_SHIFT`).
+pub const PAGE_SHIFT: u32 = 12;
 
 // Bit `n` of a word.
 fn has_bit(word: u64, n: u32) -> bool
@@ -18,7 +34,7 @@ fn number_in(word: u64) -> u32
     requires { number_in word < 2 ^ 32 }
     ensures { result ≡ number_in word }
 {
-    ((word >> 12) % (1 << 40)) as u32
+    ((word >> PAGE_SHIFT) % (1 << 40)) as u32
 }
 
 // A bit as a number.
@@ -31,28 +47,28 @@ fn digit(b: bool) -> u64
 
 /// The place in the root of a virtual page's entry.
 pub fn root_place(v: Vpn) -> u16
-    ensures value { result ≡ v / 512 }
-    ensures small { result < 512 }
+    ensures value { result ≡ v / TABLE_ENTRIES }
+    ensures small { result < TABLE_ENTRIES }
     ensures range { v < 2 ^ 18 }
 {
-    (v.get() / 512) as u16
+    (v.get() as usize / TABLE_ENTRIES) as u16
 }
 
 /// The place in its leaf table.
 pub fn leaf_place(v: Vpn) -> u16
-    ensures value { result ≡ v % 512 }
-    ensures small { result < 512 }
+    ensures value { result ≡ v % TABLE_ENTRIES }
+    ensures small { result < TABLE_ENTRIES }
     ensures range { v < 2 ^ 18 }
 {
-    (v.get() % 512) as u16
+    (v.get() as usize % TABLE_ENTRIES) as u16
 }
 
 /// The leaf table that a root's entry names.
 pub fn leaf_in(word: u64) -> Option<FrameNo>
-    requires { (f : ℕ) → leaf_in word ≡ Some f → f < 16384 }
+    requires { (f : ℕ) → leaf_in word ≡ Some f → f < MAX_FRAMES }
     ensures { result ≡ leaf_in word }
 {
-    if has_bit(word, 0) {
+    if has_bit(word, PRESENT) {
         FrameNo::new(number_in(word))
     } else {
         None
@@ -62,9 +78,9 @@ pub fn leaf_in(word: u64) -> Option<FrameNo>
 /// The root's entry that names a leaf table.
 pub fn root_word(leaf: FrameNo) -> u64
     ensures value { result ≡ root_word (Some leaf) }
-    ensures range { leaf < 16384 }
+    ensures range { leaf < MAX_FRAMES }
 {
-    3 + 4096 * u64::from(leaf.get())
+    (1 << PRESENT) + (1 << RW) + (1 << PAGE_SHIFT) * u64::from(leaf.get())
 }
 
 /// What a leaf's entry says.
@@ -72,35 +88,35 @@ pub fn walk_in(word: u64) -> Walk
     requires { InRange (walk_in word) }
     ensures { result ≡ walk_in word }
 {
-    if has_bit(word, 0) {
+    if has_bit(word, PRESENT) {
         return local_in(word);
     }
-    if has_bit(word, 10) {
+    if has_bit(word, AVAIL1) {
         return exposed_in(word);
     }
     Walk::None
 }
 
 fn local_in(word: u64) -> Walk
-    requires { number_in word < 16384 }
-    ensures { result ≡ Walk.Local (number_in word) (has_bit word 1) (has_bit word 9) }
+    requires { number_in word < MAX_FRAMES }
+    ensures { result ≡ Walk.Local (number_in word) (has_bit word RW) (has_bit word AVAIL0) }
 {
     let frame = FrameNo::new(number_in(word)).unwrap();
     Walk::Local {
         frame,
-        rw: has_bit(word, 1),
-        shared: has_bit(word, 9),
+        rw: has_bit(word, RW),
+        shared: has_bit(word, AVAIL0),
     }
 }
 
 fn exposed_in(word: u64) -> Walk
-    requires { number_in word < 1024 }
-    ensures { result ≡ Walk.Exposed (number_in word) (has_bit word 9) }
+    requires { number_in word < MAX_PAGES }
+    ensures { result ≡ Walk.Exposed (number_in word) (has_bit word AVAIL0) }
 {
     let pfn = Pfn::new(number_in(word)).unwrap();
     Walk::Exposed {
         pfn,
-        rw: has_bit(word, 9),
+        rw: has_bit(word, AVAIL0),
     }
 }
 
@@ -112,8 +128,13 @@ pub fn walk_word(walk: Walk) -> u64
     match walk {
         Walk::None => 0,
         Walk::Local { frame, rw, shared } => {
-            1 + 2 * digit(rw) + 512 * digit(shared) + 4096 * u64::from(frame.get())
+            (1 << PRESENT)
+                + (1 << RW) * digit(rw)
+                + (1 << AVAIL0) * digit(shared)
+                + (1 << PAGE_SHIFT) * u64::from(frame.get())
         }
-        Walk::Exposed { pfn, rw } => 1024 + 512 * digit(rw) + 4096 * u64::from(pfn.get()),
+        Walk::Exposed { pfn, rw } => {
+            (1 << AVAIL1) + (1 << AVAIL0) * digit(rw) + (1 << PAGE_SHIFT) * u64::from(pfn.get())
+        }
     }
 }

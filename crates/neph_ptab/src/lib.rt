@@ -1,14 +1,13 @@
 //! Page tables of a domain, in frames of its seat.
 #![tactic(auto)]
 
-mod beside;
 mod bits;
+mod empty_table;
 mod tables;
 #[cfg(test)]
 mod tests;
 mod walk;
-mod wipe;
 
-pub use beside::{Space, set_both};
+pub use empty_table::wipe;
 pub use tables::Tables;
 pub use walk::Walk;

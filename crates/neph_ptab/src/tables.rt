@@ -1,19 +1,20 @@
 // The tables of a domain.
-ghost use Rattle.std.specs.Prelude.{◌≡◌, ◌≢◌, ◌==◌, ◌/◌, ◌%◌, ◌^◌, ◌<◌, ◌↔◌, ℕ, IsTrue, IsSome, IfSome, MatchOption, if◌then◌else◌, Some, None};
-ghost use Rattle.neph_pool.specs.Entries.{with_word, with_words, IsSoleAt};
-ghost use Rattle.neph_pool.specs.Names.{IsNamed};
-ghost use Rattle.neph_pool.specs.World.{World, Moves, SameCounts};
-ghost use Rattle.neph_ptab.specs.Bits.{root_word, walk_word};
-ghost use Rattle.neph_ptab.specs.Tables.{leaf_at, walk_at, IsTables, zero_words};
+ghost use Rattle.std.specs.Prelude.{◌≡◌, ◌≢◌, ◌==◌, ◌/◌, ◌%◌, ◌^◌, ◌<◌, ◌↔◌, ℕ, true, IsTrue, IsSome, IfSome, MatchOption, if◌then◌else◌, Some, None};
+ghost use Rattle.neph_pool.specs.Entries.{hold_at, words_at, with_word, with_words, IsSoleAt};
+ghost use Rattle.neph_pool.specs.World.{World, IsSeat, Moves, SameCounts};
+ghost use Rattle.neph_ptab.specs.Bits.{root_word, walk_word, NotBoth};
+ghost use Rattle.neph_ptab.specs.Moves.{IsLocal, moved_walk, is_shown, walk_moved};
+ghost use Rattle.neph_ptab.specs.Tables.{leaf_at, walk_at, IsTables, IsRetabled, zero_words};
 
 use crate::bits::{leaf_in, leaf_place, root_place, root_word, walk_in, walk_word};
+use crate::empty_table::wipe;
 use crate::walk::Walk;
-use crate::wipe::wipe;
-use neph_base::{FrameNo, Vpn};
+use neph_base::{FrameNo, TABLE_ENTRIES, Vpn};
 use neph_pool::FramePool;
 use std::marker::PhantomData;
 
-/// The page tables of a domain: a root and leaf tables, in frames that the domain's seat has to itself.
+/// The page tables of a domain: a root and leaf tables, in frames that the domain's seat has to
+/// itself.
 ///
 /// Each call is handed the pool and the seat. All that the tables say lies in the frames.
 #[derive(Drop)]
@@ -26,13 +27,17 @@ pub struct Tables<P: FramePool> {
 impl<P: FramePool> Tables<P> {
     /// Tables that map nothing and have no leaf, with this frame as the root.
     pub fn new(pool: &mut P, seat: &mut P::Seat, root: FrameNo) -> Tables<P>
-        requires seat { P.world.fits pool.old seat.old × IsNamed (P.world.names seat.old) }
+        requires seat { IsSeat P.world pool.old seat.old }
         requires root { IsSoleAt (P.world.entries pool.old seat.old) root }
         ensures root { result.root ≡ root }
-        ensures entries { P.world.entries pool.new seat.new ≡ with_words (P.world.entries pool.old seat.old) root zero_words }
-        ensures leaves { (i : ℕ) → i < 512 → leaf_at (P.world.entries pool.new seat.new) root i ≡ None }
-        ensures walks { (v : ℕ) → v < 2 ^ 18 → walk_at (P.world.entries pool.new seat.new) root v ≡ Walk.None }
+        ensures entries { P.world.entries pool.new seat.new
+            ≡ with_words (P.world.entries pool.old seat.old) root zero_words }
+        ensures leaves { (i : ℕ) → i < TABLE_ENTRIES
+            → leaf_at (P.world.entries pool.new seat.new) root i ≡ None }
+        ensures walks { (v : ℕ) → v < 2 ^ 18
+            → walk_at (P.world.entries pool.new seat.new) root v ≡ Walk.None }
         ensures stands { IsTables (P.world.entries pool.new seat.new) root }
+        ensures met { P.world.met seat.new ≡ P.world.met seat.old }
         ensures moves { Moves P.world pool.old seat.old pool.new seat.new }
         ensures counts { SameCounts P.world pool.old pool.new }
     {
@@ -46,10 +51,13 @@ impl<P: FramePool> Tables<P> {
     /// The leaf table for a virtual page, `None` exactly where there is none.
     #[tactic(auto, using(neph_pool::proofs::Entries::entry_laws, neph_pool::proofs::Calls::call_laws))]
     pub fn leaf(&self, pool: &mut P, seat: &mut P::Seat, v: Vpn) -> Option<FrameNo>
-        requires seat { P.world.fits pool.old seat.old × IsNamed (P.world.names seat.old) }
+        requires seat { IsSeat P.world pool.old seat.old }
         requires stands { IsTables (P.world.entries pool.old seat.old) self.now.root }
-        ensures leaf { result ≡ leaf_at (P.world.entries pool.old seat.old) self.now.root (v / 512) }
+        ensures leaf { result
+            ≡ leaf_at (P.world.entries pool.old seat.old) self.now.root (v / TABLE_ENTRIES) }
+        ensures range { v < 2 ^ 18 }
         ensures entries { P.world.entries pool.new seat.new ≡ P.world.entries pool.old seat.old }
+        ensures met { P.world.met seat.new ≡ P.world.met seat.old }
         ensures moves { Moves P.world pool.old seat.old pool.new seat.new }
         ensures counts { SameCounts P.world pool.old pool.new }
     {
@@ -60,10 +68,12 @@ impl<P: FramePool> Tables<P> {
     /// What the tables say of a virtual page, `Walk::None` exactly where nothing is mapped.
     #[tactic(auto, using(neph_pool::proofs::Entries::entry_laws, neph_pool::proofs::Calls::call_laws))]
     pub fn walk(&self, pool: &mut P, seat: &mut P::Seat, v: Vpn) -> Walk
-        requires seat { P.world.fits pool.old seat.old × IsNamed (P.world.names seat.old) }
+        requires seat { IsSeat P.world pool.old seat.old }
         requires stands { IsTables (P.world.entries pool.old seat.old) self.now.root }
         ensures walk { result ≡ walk_at (P.world.entries pool.old seat.old) self.now.root v }
+        ensures range { v < 2 ^ 18 }
         ensures entries { P.world.entries pool.new seat.new ≡ P.world.entries pool.old seat.old }
+        ensures met { P.world.met seat.new ≡ P.world.met seat.old }
         ensures moves { Moves P.world pool.old seat.old pool.new seat.new }
         ensures counts { SameCounts P.world pool.old pool.new }
     {
@@ -76,10 +86,13 @@ impl<P: FramePool> Tables<P> {
     /// Whether a leaf table is missing for this virtual page.
     #[tactic(auto, using(neph_pool::proofs::Entries::entry_laws, neph_pool::proofs::Calls::call_laws))]
     pub fn needs_leaf(&self, pool: &mut P, seat: &mut P::Seat, v: Vpn) -> bool
-        requires seat { P.world.fits pool.old seat.old × IsNamed (P.world.names seat.old) }
+        requires seat { IsSeat P.world pool.old seat.old }
         requires stands { IsTables (P.world.entries pool.old seat.old) self.now.root }
-        ensures needs { IsTrue result ↔ (leaf_at (P.world.entries pool.old seat.old) self.now.root (v / 512) ≡ None) }
+        ensures needs { IsTrue result ↔ (leaf_at (P.world.entries pool.old seat.old) self.now.root
+            (v / TABLE_ENTRIES) ≡ None) }
+        ensures range { v < 2 ^ 18 }
         ensures entries { P.world.entries pool.new seat.new ≡ P.world.entries pool.old seat.old }
+        ensures met { P.world.met seat.new ≡ P.world.met seat.old }
         ensures moves { Moves P.world pool.old seat.old pool.new seat.new }
         ensures counts { SameCounts P.world pool.old pool.new }
     {
@@ -89,21 +102,32 @@ impl<P: FramePool> Tables<P> {
     /// Makes an empty leaf table, in this frame, where one is missing.
     #[tactic(auto, using(neph_pool::proofs::Entries::entry_laws, neph_pool::proofs::Calls::call_laws))]
     pub fn add_leaf(&mut self, pool: &mut P, seat: &mut P::Seat, v: Vpn, frame: FrameNo)
-        requires seat { P.world.fits pool.old seat.old × IsNamed (P.world.names seat.old) }
+        requires seat { IsSeat P.world pool.old seat.old }
         requires stands { IsTables (P.world.entries pool.old seat.old) self.old.root }
-        requires needed { leaf_at (P.world.entries pool.old seat.old) self.old.root (v / 512) ≡ None }
+        requires needed { leaf_at (P.world.entries pool.old seat.old) self.old.root
+            (v / TABLE_ENTRIES) ≡ None }
         requires frame { IsSoleAt (P.world.entries pool.old seat.old) frame }
         requires root { frame ≢ self.old.root }
-        requires new { (i : ℕ) → i < 512 → leaf_at (P.world.entries pool.old seat.old) self.old.root i ≢ Some frame }
+        requires new { (i : ℕ) → i < TABLE_ENTRIES
+            → leaf_at (P.world.entries pool.old seat.old) self.old.root i ≢ Some frame }
         ensures root { self.new.root ≡ self.old.root }
         ensures entries { P.world.entries pool.new seat.new
-            ≡ with_word (with_words (P.world.entries pool.old seat.old) frame zero_words) self.old.root (v / 512)
-            (root_word (Some frame)) }
-        ensures leaves { (i : ℕ) → i < 512 → leaf_at (P.world.entries pool.new seat.new) self.old.root i
-            ≡ (if i == v / 512 then Some frame else leaf_at (P.world.entries pool.old seat.old) self.old.root i) }
-        ensures walks { (u : ℕ) → u < 2 ^ 18 → walk_at (P.world.entries pool.new seat.new) self.old.root u
+            ≡ with_word (with_words (P.world.entries pool.old seat.old) frame zero_words)
+            self.old.root (v / TABLE_ENTRIES) (root_word (Some frame)) }
+        ensures leaves { (i : ℕ) → i < TABLE_ENTRIES
+            → leaf_at (P.world.entries pool.new seat.new) self.old.root i
+            ≡ (if i == v / TABLE_ENTRIES then Some frame
+            else leaf_at (P.world.entries pool.old seat.old) self.old.root i) }
+        ensures walks { (u : ℕ) → u < 2 ^ 18
+            → walk_at (P.world.entries pool.new seat.new) self.old.root u
             ≡ walk_at (P.world.entries pool.old seat.old) self.old.root u }
+        ensures holds { (f : ℕ) → hold_at (P.world.entries pool.new seat.new) f
+            ≡ hold_at (P.world.entries pool.old seat.old) f }
+        ensures words { (f : ℕ) → f ≢ self.old.root → f ≢ frame
+            → words_at (P.world.entries pool.new seat.new) f
+            ≡ words_at (P.world.entries pool.old seat.old) f }
         ensures stands { IsTables (P.world.entries pool.new seat.new) self.old.root }
+        ensures met { P.world.met seat.new ≡ P.world.met seat.old }
         ensures moves { Moves P.world pool.old seat.old pool.new seat.new }
         ensures counts { SameCounts P.world pool.old pool.new }
     {
@@ -111,21 +135,28 @@ impl<P: FramePool> Tables<P> {
         pool.write(seat, self.root, root_place(v), root_word(frame));
     }
 
-    /// Makes a virtual page lead there. Its leaf table must be there.
+    /// Makes a virtual page lead there. Its leaf table must be there. A local page can't be both
+    /// writable at once and shared.
     #[tactic(auto, using(neph_pool::proofs::Entries::entry_laws, neph_pool::proofs::Calls::call_laws))]
     pub fn set(&mut self, pool: &mut P, seat: &mut P::Seat, v: Vpn, to: Walk)
-        requires seat { P.world.fits pool.old seat.old × IsNamed (P.world.names seat.old) }
+        requires seat { IsSeat P.world pool.old seat.old }
         requires stands { IsTables (P.world.entries pool.old seat.old) self.old.root }
-        requires leaf { IsSome (leaf_at (P.world.entries pool.old seat.old) self.old.root (v / 512)) }
+        requires leaf { IsSome
+            (leaf_at (P.world.entries pool.old seat.old) self.old.root (v / TABLE_ENTRIES)) }
+        requires to { NotBoth to }
         ensures root { self.new.root ≡ self.old.root }
-        ensures entries { IfSome (leaf_at (P.world.entries pool.old seat.old) self.old.root (v / 512))
+        ensures entries { IfSome
+            (leaf_at (P.world.entries pool.old seat.old) self.old.root (v / TABLE_ENTRIES))
             (λ f. P.world.entries pool.new seat.new
-            ≡ with_word (P.world.entries pool.old seat.old) f (v % 512) (walk_word to)) }
-        ensures leaves { (i : ℕ) → i < 512 → leaf_at (P.world.entries pool.new seat.new) self.old.root i
-            ≡ leaf_at (P.world.entries pool.old seat.old) self.old.root i }
-        ensures walks { (u : ℕ) → u < 2 ^ 18 → walk_at (P.world.entries pool.new seat.new) self.old.root u
-            ≡ (if u == v then to else walk_at (P.world.entries pool.old seat.old) self.old.root u) }
-        ensures stands { IsTables (P.world.entries pool.new seat.new) self.old.root }
+            ≡ with_word (P.world.entries pool.old seat.old) f (v % TABLE_ENTRIES) (walk_word to)) }
+        ensures walks { (u : ℕ) → u < 2 ^ 18
+            → walk_at (P.world.entries pool.new seat.new) self.old.root u
+            ≡ (if u == v then to
+            else walk_at (P.world.entries pool.old seat.old) self.old.root u) }
+        ensures tables { IsRetabled (P.world.entries pool.old seat.old)
+            (P.world.entries pool.new seat.new) self.old.root }
+        ensures range { v < 2 ^ 18 }
+        ensures met { P.world.met seat.new ≡ P.world.met seat.old }
         ensures moves { Moves P.world pool.old seat.old pool.new seat.new }
         ensures counts { SameCounts P.world pool.old pool.new }
     {
@@ -136,23 +167,80 @@ impl<P: FramePool> Tables<P> {
     /// Makes a virtual page lead nowhere. Without a leaf table it does already.
     #[tactic(auto, using(neph_pool::proofs::Entries::entry_laws, neph_pool::proofs::Calls::call_laws))]
     pub fn clear(&mut self, pool: &mut P, seat: &mut P::Seat, v: Vpn)
-        requires seat { P.world.fits pool.old seat.old × IsNamed (P.world.names seat.old) }
+        requires seat { IsSeat P.world pool.old seat.old }
         requires stands { IsTables (P.world.entries pool.old seat.old) self.old.root }
         ensures root { self.new.root ≡ self.old.root }
-        ensures entries { MatchOption (leaf_at (P.world.entries pool.old seat.old) self.old.root (v / 512))
+        ensures entries { MatchOption
+            (leaf_at (P.world.entries pool.old seat.old) self.old.root (v / TABLE_ENTRIES))
             (P.world.entries pool.new seat.new ≡ P.world.entries pool.old seat.old)
             (λ f. P.world.entries pool.new seat.new
-            ≡ with_word (P.world.entries pool.old seat.old) f (v % 512) 0) }
-        ensures leaves { (i : ℕ) → i < 512 → leaf_at (P.world.entries pool.new seat.new) self.old.root i
-            ≡ leaf_at (P.world.entries pool.old seat.old) self.old.root i }
-        ensures walks { (u : ℕ) → u < 2 ^ 18 → walk_at (P.world.entries pool.new seat.new) self.old.root u
-            ≡ (if u == v then Walk.None else walk_at (P.world.entries pool.old seat.old) self.old.root u) }
-        ensures stands { IsTables (P.world.entries pool.new seat.new) self.old.root }
+            ≡ with_word (P.world.entries pool.old seat.old) f (v % TABLE_ENTRIES) 0) }
+        ensures walks { (u : ℕ) → u < 2 ^ 18
+            → walk_at (P.world.entries pool.new seat.new) self.old.root u
+            ≡ (if u == v then Walk.None
+            else walk_at (P.world.entries pool.old seat.old) self.old.root u) }
+        ensures tables { IsRetabled (P.world.entries pool.old seat.old)
+            (P.world.entries pool.new seat.new) self.old.root }
+        ensures range { v < 2 ^ 18 }
+        ensures met { P.world.met seat.new ≡ P.world.met seat.old }
         ensures moves { Moves P.world pool.old seat.old pool.new seat.new }
         ensures counts { SameCounts P.world pool.old pool.new }
     {
         if !self.needs_leaf(pool, seat, v) {
             self.set(pool, seat, v, Walk::None);
+        }
+    }
+
+    // One virtual page leads to its page's new frame.
+    fn move_one(&mut self, pool: &mut P, seat: &mut P::Seat, v: Vpn, to: FrameNo, alone: bool)
+        requires seat { IsSeat P.world pool.old seat.old }
+        requires stands { IsTables (P.world.entries pool.old seat.old) self.old.root }
+        requires local { IsLocal (walk_at (P.world.entries pool.old seat.old) self.old.root v) }
+        ensures root { self.new.root ≡ self.old.root }
+        ensures walks { (u : ℕ) → u < 2 ^ 18
+            → walk_at (P.world.entries pool.new seat.new) self.old.root u
+            ≡ (if u == v
+            then moved_walk to alone (walk_at (P.world.entries pool.old seat.old) self.old.root u)
+            else walk_at (P.world.entries pool.old seat.old) self.old.root u) }
+        ensures tables { IsRetabled (P.world.entries pool.old seat.old)
+            (P.world.entries pool.new seat.new) self.old.root }
+        ensures met { P.world.met seat.new ≡ P.world.met seat.old }
+        ensures moves { Moves P.world pool.old seat.old pool.new seat.new }
+        ensures counts { SameCounts P.world pool.old pool.new }
+    {
+        let walk = self.walk(pool, seat, v);
+        self.set(pool, seat, v, walk.moved(to, alone));
+    }
+
+    /// Lets all of these virtual pages, which show one local page, lead to another frame of it.
+    /// They may be written at once, where they are wanted writable, if the frame is the domain's
+    /// alone; else they may be shared.
+    pub fn move_page(
+        &mut self,
+        pool: &mut P,
+        seat: &mut P::Seat,
+        vpns: &[Vpn],
+        to: FrameNo,
+        alone: bool,
+    )
+        requires seat { IsSeat P.world pool.old seat.old }
+        requires stands { IsTables (P.world.entries pool.old seat.old) self.old.root }
+        requires local { (u : ℕ) → u < 2 ^ 18 → is_shown u vpns.now ≡ true
+            → IsLocal (walk_at (P.world.entries pool.old seat.old) self.old.root u) }
+        ensures root { self.new.root ≡ self.old.root }
+        ensures walks { (u : ℕ) → u < 2 ^ 18
+            → walk_at (P.world.entries pool.new seat.new) self.old.root u
+            ≡ walk_moved to alone vpns.now u
+            (walk_at (P.world.entries pool.old seat.old) self.old.root u) }
+        ensures tables { IsRetabled (P.world.entries pool.old seat.old)
+            (P.world.entries pool.new seat.new) self.old.root }
+        ensures met { P.world.met seat.new ≡ P.world.met seat.old }
+        ensures moves { Moves P.world pool.old seat.old pool.new seat.new }
+        ensures counts { SameCounts P.world pool.old pool.new }
+    {
+        for v in vpns {
+            let _number = v.get();
+            self.move_one(pool, seat, *v, to, alone);
         }
     }
 }

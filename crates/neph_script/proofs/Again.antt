@@ -5,7 +5,6 @@ use Rattle.std.proofs.lemmas.List.{length-append}
 use Rattle.std.proofs.lemmas.Bool.{leb-false}
 use Rattle.std.proofs.lemmas.List.Elements.{All-nil, All-cons, All-push, All-append, All-head, All-tail, All-map}
 use Rattle.neph_base.specs.declared.reply.Actor.{Actor}
-use Rattle.neph_model.specs.declared.script.Actors.{Actors}
 use Rattle.neph_model.specs.declared.script.Program.{Program}
 use Rattle.neph_model.specs.declared.script.Start.{Start}
 use Rattle.neph_model.specs.declared.script.Script.{Script}
@@ -52,7 +51,7 @@ run_one : (r : Read) (line : List ℕ) (i : Item) → SaysThis r line i → run 
 run_one r line i h = ap (λ (o : Result Item Why). (o >>= λ j. Ok (taken r j)) >>= λ n. Ok n) h.said
 
 -- a line that isn't one of turns
-more_before : (r : Read) (line : List ℕ) (i : Item) → ((more : Actors) → i ≡ item.Turns more → ⊥) → Before r → SaysThis r line i → Before (taken r i)
+more_before : (r : Read) (line : List ℕ) (i : Item) → ((more : List Actor) → i ≡ item.Turns more → ⊥) → Before r → SaysThis r line i → Before (taken r i)
 more_before r line i other b h =
     let a = adds r (words line) i other b.front h.stands in
     let is : front_words (taken r i) ≡ front_words r ++ words line ∷ [] = a.adds ∙ ap (λ (w : List (List ℕ)). front_words r ++ w ∷ []) (sym h.stands.spelled) in
@@ -72,7 +71,7 @@ started_here place.Started e = inl refl
 started_here place.Turned e = inr refl
 
 -- only turns stand behind turns
-only_turns : (i : Item) → may_stand (form_said i) place.Turned ≡ true → (P : Type 0) → ((more : Actors) → i ≡ item.Turns more → P) → P
+only_turns : (i : Item) → may_stand (form_said i) place.Turned ≡ true → (P : Type 0) → ((more : List Actor) → i ≡ item.Turns more → P) → P
 only_turns item.Heading e P h = absurd cc
 only_turns (item.Frames n) e P h = absurd cc
 only_turns (item.Program n) e P h = absurd cc
@@ -82,10 +81,10 @@ only_turns (item.End cs) e P h = absurd cc
 only_turns (item.Start t) e P h = absurd cc
 only_turns (item.Turns more) e P h = h more refl
 
-group_of : (r : Read) (ws : List (List ℕ)) (more : Actors) → Stands r ws (item.Turns more) → IsGroup more
+group_of : (r : Read) (ws : List (List ℕ)) (more : List Actor) → Stands r ws (item.Turns more) → IsGroup more
 group_of r ws more s = record { some = s.said.0; few = s.said.1; fits = s.said.2 }
 
-first_turns : (r : Read) (line : List ℕ) (more : Actors) → Before r → SaysThis r line (item.Turns more) → r.place ≡ place.Started → Behind (taken r (item.Turns more))
+first_turns : (r : Read) (line : List ℕ) (more : List Actor) → Before r → SaysThis r line (item.Turns more) → r.place ≡ place.Started → Behind (taken r (item.Turns more))
 first_turns r line more b h at =
     record {
       start = r;
@@ -99,10 +98,10 @@ first_turns r line more b h at =
       is = refl;
     }
 
-lines_left : (r : Read) (ws : List (List ℕ)) (more : Actors) → Stands r ws (item.Turns more) → r.turn_lines < 64
+lines_left : (r : Read) (ws : List (List ℕ)) (more : List Actor) → Stands r ws (item.Turns more) → r.turn_lines < 64
 lines_left r ws more s = leb-false 64 r.turn_lines (first (nat_le 64 r.turn_lines) _ s.few)
 
-next_turns : (r : Read) (line : List ℕ) (more : Actors) → Behind r → SaysThis r line (item.Turns more) → Behind (taken r (item.Turns more))
+next_turns : (r : Read) (line : List ℕ) (more : List Actor) → Behind r → SaysThis r line (item.Turns more) → Behind (taken r (item.Turns more))
 next_turns r line more b h =
     record {
       start = b.start;

@@ -8,7 +8,7 @@ use Rattle.std.proofs.lemmas.Option.{slice_get-get_or}
 use Rattle.neph_base.specs.declared.command.Command.{Command}
 use Rattle.neph_base.specs.declared.command.Command.TheVariants as command
 use Rattle.neph_model.specs.declared.script.Label.{Label}
-use Rattle.neph_model.specs.Machine.{label_line}
+use Rattle.neph_model.specs.Programs.{label_line}
 use Rattle.neph_model.specs.Words.{command_words, label_name, name_of}
 use Rattle.neph_script.specs.declared.command.Said.{Said}
 use Rattle.neph_script.specs.declared.command.Said.TheVariants as said

@@ -8,12 +8,12 @@ use Rattle.std.proofs.lemmas.List.Concat.{flat_map-append}
 use Rattle.std.proofs.lemmas.List.Elements.{All-nil, All-push}
 use Rattle.std.proofs.lemmas.Fmt.{decimal_digit}
 use Rattle.neph_base.specs.declared.command.Command.{Command}
+use Rattle.neph_base.specs.declared.reply.Actor.{Actor}
 use Rattle.neph_model.specs.declared.script.Program.{Program}
 use Rattle.neph_model.specs.declared.script.Label.{Label}
 use Rattle.neph_model.specs.declared.script.Start.{Start}
 use Rattle.neph_model.specs.Words.{command_words}
 use Rattle.neph_script.specs.declared.command.Said.{Said}
-use Rattle.neph_model.specs.declared.script.Actors.{Actors}
 use Rattle.neph_script.specs.declared.form.Verb.{Verb}
 use Rattle.neph_script.specs.declared.form.Form.TheVariants as form
 use Rattle.neph_script.specs.declared.state.Place.{Place}
@@ -210,7 +210,7 @@ longer : (r : Read) (c : Said) → length (r.draft.said ++ c ∷ []) ≡ length 
 longer r c = length-append r.draft.said (c ∷ [])
 
 -- what an item that isn't turns adds
-pub adds : (r : Read) (ws : List (List ℕ)) (i : Item) → ((more : Actors) → i ≡ item.Turns more → ⊥) → Front r → Stands r ws i → Adds r i
+pub adds : (r : Read) (ws : List (List ℕ)) (i : Item) → ((more : List Actor) → i ≡ item.Turns more → ⊥) → Front r → Stands r ws i → Adds r i
 adds r ws item.Heading other f s =
     let at : r.place ≡ place.Top = top_only r.place (λ p. p ≡ place.Top) s.place refl in
     let none : (r.programs ≡ []) × (r.starts ≡ []) = subst (λ (p : Place). NoMore p r.programs r.starts) at f.no_more in

@@ -12,7 +12,7 @@ pub mod LineLaws
 pub mod Fitting
 pub mod Printed
 pub mod Folded
-pub mod LawfulLaws
+pub mod FormedLaws
 pub mod Bodies
 pub mod Fronts
 pub mod Turned

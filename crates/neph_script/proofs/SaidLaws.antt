@@ -11,7 +11,6 @@ use Rattle.neph_base.specs.declared.command.Mode.{Mode}
 use Rattle.neph_base.specs.declared.command.Mode.TheVariants.{Ro, Rw}
 use Rattle.neph_model.specs.Words.{hex, hex_digit, mode_word}
 use Rattle.neph_base.specs.declared.reply.Actor.{Actor}
-use Rattle.neph_model.specs.declared.script.Actors.{Actors}
 use Rattle.neph_model.specs.declared.script.Start.{Start}
 use Rattle.neph_script.specs.declared.command.Said.{Said}
 use Rattle.neph_script.specs.declared.command.Said.TheVariants as said
@@ -178,7 +177,7 @@ few_here r f ws vs e same = subst (λ (xs : List (List ℕ)). is_many r f (drop 
 turns_item : (r : Read) (a : Actor) (more : List Actor) → All IsActor (a ∷ more) → item_of r form.Turns (map actor_word (a ∷ more)) ≡ Ok (item.Turns (a ∷ more))
 turns_item r a more h = ap (λ (o : Result (List Actor) Why). o >>= λ xs. Ok (item.Turns xs)) (actors_again (a ∷ more) h)
 
-turns_again : (r : Read) (ws : List (List ℕ)) (more : Actors) → Stands r ws (item.Turns more) → judged r (turns_words more) ≡ Ok (item.Turns more)
+turns_again : (r : Read) (ws : List (List ℕ)) (more : List Actor) → Stands r ws (item.Turns more) → judged r (turns_words more) ≡ Ok (item.Turns more)
 turns_again r ws [] s = absurd (omega (arith, s.said.0))
 turns_again r ws (a ∷ more) s =
     form_again r form.Turns (map actor_word (a ∷ more)) (item.Turns (a ∷ more)) s.place (few_here r form.Turns ws _ s.few s.spelled) (whole_words (a ∷ more) s.said.2) (turns_item r a more s.said.2)

@@ -14,12 +14,12 @@ use Rattle.neph_script.specs.Spells.{IsNext, Takes, Leads, Spells, CannotStand, 
 use Rattle.neph_script.specs.Words.{◌>>=◌}
 use Rattle.neph_script.specs.Lines.{taken}
 use Rattle.neph_script.specs.Grammar.{with_words}
-use Rattle.neph_script.specs.Spells.{IsSpelled}
+use Rattle.neph_script.specs.Spells.{IsLawful}
 use Rattle.neph_script.specs.Text.{script_text}
 use Rattle.neph_script.specs.Outcomes.{IfBad}
 use Rattle.neph_script.specs.declared.why.ParseEnd.TheVariants as parse_end
-use Rattle.neph_model.specs.Lawful.{IsLawful}
-use Rattle.neph_script.proofs.LawfulLaws.{lawful_read}
+use Rattle.neph_model.specs.WellFormed.{IsWellFormed}
+use Rattle.neph_script.proofs.FormedLaws.{formed_read}
 use Rattle.neph_script.proofs.Again.{printed_again}
 use Rattle.neph_script.proofs.SaidLaws.{judged_again}
 use Rattle.neph_script.proofs.Folded.{by_line, line_or_bad, ok_or_bad}
@@ -111,9 +111,9 @@ pub if_spelled : (bytes : List ℕ) (r : Result Script ParseEnd) → Reads r (re
 if_spelled bytes (Ok s) e = spelled bytes s e
 if_spelled bytes (Err x) e = tt
 
-pub if_lawful : (bytes : List ℕ) (r : Result Script ParseEnd) → Reads r (read_script bytes) → IfOk r IsLawful
-if_lawful bytes (Ok s) e = lawful_read bytes s e
-if_lawful bytes (Err x) e = tt
+pub if_formed : (bytes : List ℕ) (r : Result Script ParseEnd) → Reads r (read_script bytes) → IfOk r IsWellFormed
+if_formed bytes (Ok s) e = formed_read bytes s e
+if_formed bytes (Err x) e = tt
 
 pub if_fault : (bytes : List ℕ) (r : Result Script ParseEnd) → Reads r (read_script bytes) → IfBad r (IsFault bytes)
 if_fault bytes (Ok s) e = tt
@@ -124,8 +124,8 @@ pub only_spelled : (bytes : List ℕ) (r : Result Script ParseEnd) → Reads r (
 only_spelled bytes r e s h = subst (Reads r) (spelled_only bytes s h) e
 
 -- the text of a script that some bytes spell is read as that script
-pub again : (s : Script) → IsSpelled s → read_script (script_text s) ≡ Ok s
+pub again : (s : Script) → IsLawful s → read_script (script_text s) ≡ Ok s
 again s h = printed_again h.0 s (spelled_only h.0 s h.1)
 
-pub spells_again : (s : Script) → IsSpelled s → Spells (script_text s) s
+pub spells_again : (s : Script) → IsLawful s → Spells (script_text s) s
 spells_again s h = spelled (script_text s) s (again s h)

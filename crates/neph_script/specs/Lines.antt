@@ -8,7 +8,7 @@ use Rattle.neph_base.specs.declared.reply.Actor.{Actor}
 use Rattle.neph_model.specs.declared.script.Program.{Program}
 use Rattle.neph_model.specs.declared.script.Label.{Label}
 use Rattle.neph_model.specs.declared.script.Start.{Start}
-use Rattle.neph_model.specs.Machine.{label_line}
+use Rattle.neph_model.specs.Programs.{label_line}
 use Rattle.neph_script.specs.Forms.{equals, form_of, is_later}
 use Rattle.neph_script.specs.Words.{◌>>=◌, number, name, actor_named}
 use Rattle.neph_script.specs.Commands.{command_said}

@@ -5,8 +5,8 @@ use Rattle.neph_base.specs.declared.command.Command.{Command}
 use Rattle.neph_base.specs.declared.command.Command.TheVariants as command
 use Rattle.neph_model.specs.declared.script.Program.{Program}
 use Rattle.neph_model.specs.declared.script.Start.{Start}
-use Rattle.neph_model.specs.Frames.{started_512s}
-use Rattle.neph_model.specs.Machine.{commands_of}
+use Rattle.neph_model.specs.Start.{started_512s}
+use Rattle.neph_model.specs.Programs.{commands_of}
 
 -- the frames of a starting domain: one for each page, one for its root table, and its leaf tables
 abbrev pub start_frames : Start → ℕ

@@ -32,9 +32,9 @@ pub record Spells (bytes : List ℕ) (s : Script) : Type 0 where
   pub may : may_end last.place ≡ true
   pub is : script_read last ≡ s
 
--- some bytes spell this script
-abbrev pub IsSpelled : Script → Type 0
-IsSpelled s = (bytes : List ℕ) × Spells bytes s
+-- A script is lawful where some bytes spell it.
+abbrev pub IsLawful : Script → Type 0
+IsLawful s = (bytes : List ℕ) × Spells bytes s
 
 -- The first of these lines can't stand, or there is none where one must come.
 abbrev pub CannotStand : Read → List (List ℕ) → Why → Type 0

@@ -4,7 +4,7 @@ ghost use Rattle.std.specs.List.{flat_map};
 ghost use Rattle.std.specs.Fmt.{decimal};
 ghost use Rattle.neph_model.specs.Words.{hex, hex_digit, mode_word, command_words, spaced, label_name};
 ghost use Rattle.neph_script.specs.Grammar.{read_script};
-ghost use Rattle.neph_script.specs.Spells.{Spells, IsSpelled};
+ghost use Rattle.neph_script.specs.Spells.{Spells, IsLawful};
 ghost use Rattle.neph_script.specs.Spelling.{actor_word, start_words, turns_words, name_of_program};
 ghost use Rattle.neph_script.specs.Text.{program_words, program_head, body_words, label_words, end_words, frames_words, turn_groups, line_text, lines_text, script_text};
 
@@ -17,8 +17,8 @@ use std::alloc::Global;
 pub fn print_script(alloc: Global, s: &Script) -> Result<Vec<u8>, NoMemory>
     ensures text { IfOk result (λ text. text.items ≡ script_text s.now) }
     // A script that some bytes spell is spelled by its text, and read of it again.
-    ensures spells { IfOk result (λ text. IsSpelled s.now → Spells text.items s.now) }
-    ensures again { IfOk result (λ text. IsSpelled s.now → read_script text.items ≡ Ok s.now) }
+    ensures spells { IfOk result (λ text. IsLawful s.now → Spells text.items s.now) }
+    ensures again { IfOk result (λ text. IsLawful s.now → read_script text.items ≡ Ok s.now) }
 {
     printed(alloc, s)
 }

@@ -4,7 +4,7 @@ ghost use Rattle.std.specs.List.{list_all};
 ghost use Rattle.neph_script.specs.Grammar.{parts_at, lines, is_printed, is_text, is_skipped, may_end, with_line, read_script, ended};
 ghost use Rattle.neph_script.specs.Outcomes.{Reads, IfBad};
 ghost use Rattle.neph_script.specs.Spells.{Spells, IsFault};
-ghost use Rattle.neph_model.specs.Lawful.{IsLawful};
+ghost use Rattle.neph_model.specs.WellFormed.{IsWellFormed};
 ghost use Rattle.neph_model.specs.declared.script.Script.{Script};
 ghost use Rattle.neph_script.specs.Seen.{seen, IsSound, Moves};
 
@@ -18,9 +18,9 @@ use std::alloc::Global;
 pub fn parse(alloc: Global, bytes: &[u8]) -> Result<Script, ParseEnd>
     requires { length bytes.now < 2 ^ 32 - 1 }
     ensures reads { Reads result (read_script bytes.now) }
-    // A script is read only where the bytes spell it, and it is lawful.
+    // A script is read only where the bytes spell it, and it is well formed.
     ensures spelled { IfOk result (Spells bytes.now) }
-    ensures lawful { IfOk result IsLawful }
+    ensures formed { IfOk result IsWellFormed }
     // What the bytes spell is read, unless memory runs out.
     ensures only { (s : Script) → Spells bytes.now s → Reads result (Ok s) }
     // Else it is the first line that can't stand, with the first reason that holds.

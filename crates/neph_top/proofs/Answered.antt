@@ -1,28 +1,52 @@
 -- What the parts of a call say together.
-use Rattle.std.proofs.Common.{◌≡◌, ℕ, false, List, Option, Some, None, Result, Ok, Err, sym, ap, subst, ◌∙◌, inl, inr}
-use Rattle.std.specs.Prelude.{IfSome}
+use Rattle.std.proofs.Common.{◌≡◌, ℕ, Bool, List, Result, Ok, Err, sym, ap, subst, ◌∙◌, inl, inr}
 use Rattle.std.specs.Io.KnownBytes.{Appends}
+use Rattle.neph_base.specs.declared.reply.Noted.{Noted}
 use Rattle.neph_model.specs.declared.script.Script.{Script}
+use Rattle.neph_model.specs.WellFormed.{IsWellFormed}
 use Rattle.neph_model.specs.Books.{State, counts}
-use Rattle.neph_model.specs.Run.{Ran}
+use Rattle.neph_model.specs.Run.{IsRun}
 use Rattle.neph_model.specs.Transcript.{transcript}
-use Rattle.neph_print.specs.Parts.{shown}
+use Rattle.neph_runs.proofs.OneRun.{one_run}
+use Rattle.neph_runs.proofs.Runs as runs
+use Rattle.neph_runs.proofs.Lasting as lasting
+use Rattle.neph_runs.proofs.Legally as legally
 use Rattle.neph_core.specs.Course.{Course}
 use Rattle.neph_core.specs.Plays.{Plays}
 use Rattle.neph_script.specs.declared.why.BadScript.{BadScript}
 use Rattle.neph_script.specs.Spells.{Spells, IsFault}
-use Rattle.neph_io.specs.Streams.{AppendsFront}
+use Rattle.neph_script.proofs.Inverse.{same_read}
+use Rattle.neph_script.proofs.SpellsLaws.{spelled_only}
 use Rattle.neph_top.specs.declared.status.Status.{Status}
-use Rattle.neph_top.specs.Call.{Transcribes, IsRefusal, refusal_text, Answers, Seen, Called, FailsToWrite, Tells}
+use Rattle.neph_top.specs.declared.status.Status.TheVariants.{Ended, Refused}
+use Rattle.neph_top.specs.Call.{run_text, Transcribes, IsTranscript, IsRefusal, refusal_text, IsAnswer, Seen, Reads, Called, FailsToWrite, NoFault, Tells}
 
-pub transcribes : (s : Script) (c : Course) (text : List ℕ) → Plays s c → ((r : Ran) → c.history ≡ r.history → shown (counts c.script c.state) ≡ shown (counts s r.last) → false ≡ r.stalled → text ≡ transcript s r) → Transcribes s text
-transcribes s c text p told =
-    let used : shown (counts c.script c.state) ≡ shown (counts s p.ran.last) = ap (λ (x : Script). shown (counts x c.state)) p.script ∙ ap (λ (x : State). shown (counts s x)) (sym p.last) in
-    record { ran = p.ran; run = p.run; ended = p.ended; over = p.over; text_is = told p.ran (sym p.entries) used (sym p.ended) }
+-- a run that was played to its end is transcribed
+pub transcribes : (s : Script) (c : Course) (stalled : Bool) (text : List ℕ) → IsWellFormed s → Plays s c stalled → text ≡ transcript s c.history (counts c.script c.state) stalled → Transcribes s text
+transcribes s c stalled text formed p is =
+    let over = runs.ends_over s p.ran formed p.run in
+    record {
+      ran = p.ran;
+      run = p.run;
+      text_is = is ∙ ap (λ (h : List Noted). transcript s h (counts c.script c.state) stalled) (sym p.entries) ∙ ap (λ (x : Script). transcript s p.ran.history (counts x c.state) stalled) p.script
+          ∙ ap (λ (x : State). transcript s p.ran.history (counts s x) stalled) (sym p.last) ∙ ap (transcript s p.ran.history (counts s p.ran.last)) (sym p.ended);
+      legal = legally.runs_legally s p.ran formed p.run;
+      over = over.1;
+      ended = over.0;
+      sum = lasting.counts_add_up s p.ran formed p.run;
+    }
 
-fault : (left old new : Option (List ℕ)) (text : List ℕ) → IfSome left (λ xs. Answers xs text) → AppendsFront old new text → IfSome left (λ xs. (t : List ℕ) × Answers xs t × AppendsFront old new t)
-fault None old new text a f = tt
-fault (Some xs) old new text a f = (text, a, f)
+-- the transcript of the script that the bytes spell is the one text
+pub transcript_of : (bytes text : List ℕ) (s : Script) → Spells bytes s → Transcribes s text → IsTranscript bytes text
+transcript_of bytes text s spelled t = record {
+  script = s;
+  spelled = spelled;
+  transcribed = t;
+  one = λ u r other run.
+      let same : s ≡ u = same_read s u (sym (spelled_only bytes s spelled) ∙ spelled_only bytes u other) in
+      let here : IsRun u t.ran = subst (λ (x : Script). IsRun x t.ran) same t.run in
+      t.text_is ∙ ap (λ (x : Script). run_text x t.ran) same ∙ ap (run_text u) (one_run u t.ran r here run);
+}
 
 abbrev IsSame : Result Script BadScript → Result Script BadScript → Type 0
 IsSame a b = a ≡ b
@@ -33,14 +57,20 @@ refusal bytes text bad only found is = record { none = λ s spelled. no_script (
   no_script : {s : Script} {bad : BadScript} → IsSame (Ok s) (Err bad) → ⊥
   no_script e = cc
 
--- what the bytes read are is known of those that the source had left
-pub of_left : (left : Option (List ℕ)) (v : List ℕ) (P : List ℕ → Type 0) → IfSome left (λ xs. v ≡ xs) → P v → IfSome left P
-of_left None v P is h = tt
-of_left (Some xs) v P is h = subst P is h
-
-pub tells : (c : Seen) (text : List ℕ) (status answer : Status) → Tells c.old c.new text c.write_before c.write_now status answer → IfSome c.left (λ xs. Answers xs text) → c.read_now ≡ c.read_before
-    → (Appends c.old c.new text → c.write_now ≡ c.write_before → Called c status) → Called c answer
-tells c text status answer (inl h) answers read ok = subst (Called c) (sym h.0) (ok h.1 h.2)
-tells c text status answer (inr h) answers read ok =
-    let fails : FailsToWrite c = record { front = fault c.left c.old c.new text answers h.1; read = read; rose = h.2 } in
+-- a text was written whole, or a front of it and the sink failed
+pub tells : (c : Seen) (text : List ℕ) (status answer : Status) → Tells c.old c.new text c.write_before c.write_now status answer → IsAnswer c text → c.read_now ≡ c.read_before
+    → (Appends c.old c.new text → NoFault c → Called c status) → Called c answer
+tells c text status answer (inl h) said read ok = subst (Called c) (sym h.0) (ok h.1 (record { read = read; write = h.2 }))
+tells c text status answer (inr h) said read ok =
+    let fails : FailsToWrite c = record { text = text; answer = said; front = h.1; read = read; rose = h.2 } in
     subst (Called c) (sym h.0) fails
+
+-- the transcript of the bytes read was told
+pub tells_transcript : (c : Seen) (bytes text : List ℕ) (answer : Status) → Reads c bytes → IsTranscript bytes text → c.read_now ≡ c.read_before → Tells c.old c.new text c.write_before c.write_now Ended answer → Called c answer
+tells_transcript c bytes text answer all is read told =
+    tells c text Ended answer told (inl (bytes, all, inl is)) read (λ took faults. record { bytes = bytes; read = all; text = text; is = is; taken = took; faults = faults })
+
+-- and so was their first line that can't stand
+pub tells_refusal : (c : Seen) (bytes text : List ℕ) (answer : Status) → Reads c bytes → IsRefusal bytes text → c.read_now ≡ c.read_before → Tells c.old c.new text c.write_before c.write_now Refused answer → Called c answer
+tells_refusal c bytes text answer all is read told =
+    tells c text Refused answer told (inl (bytes, all, inr is)) read (λ took faults. record { bytes = bytes; read = all; text = text; is = is; taken = took; faults = faults })

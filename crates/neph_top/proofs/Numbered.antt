@@ -1,5 +1,5 @@
 -- What each number of a status says.
-use Rattle.std.proofs.Common.{◌≡◌, ℕ, ◌<◌, ◌≤◌, List, length, Option, Some, None, arith, inl, inr, refl}
+use Rattle.std.proofs.Common.{◌≡◌, ℕ, ◌<◌, ◌≤◌, List, length, Option, Some, None, arith, inl, inr, refl, subst}
 use Rattle.std.specs.Prelude.{IfSome, ◌⊎◌}
 use Rattle.neph_model.specs.declared.script.Script.{Script}
 use Rattle.neph_script.specs.Spells.{Spells}
@@ -37,7 +37,7 @@ answers_run c Ended h =
       write = λ e. absurd (omega arith);
       one = inl refl;
       complete = λ r w. any c.left (Accepts 0) (λ xs few s is. inl refl);
-      complete_refused = λ r w. told c.left _ (Refuses 0) (λ xs p. not_refused xs p.1.0 0 p.0 p.1.1) h.text;
+      complete_refused = λ r w. told c.left (λ xs. h.bytes ≡ xs) (Refuses 0) (λ xs e. subst (Refuses 0) e (not_refused h.bytes h.text 0 h.read.few h.is)) h.read.left;
     }
 answers_run c Refused h =
     record {
@@ -47,7 +47,7 @@ answers_run c Refused h =
       read = λ e. absurd (omega arith);
       write = λ e. absurd (omega arith);
       one = inr (inl refl);
-      complete = λ r w. told c.left _ (Accepts 4) (λ xs p few s is. absurd (p.1.1.none s is)) h.text;
+      complete = λ r w. told c.left (λ xs. h.bytes ≡ xs) (Accepts 4) (λ xs e. subst (Accepts 4) e (λ few s is. absurd (h.is.none s is))) h.read.left;
       complete_refused = λ r w. any c.left (Refuses 4) (λ xs o. inl refl);
     }
 answers_run c TooLong h =

@@ -9,24 +9,35 @@ use Rattle.neph_script.specs.declared.why.BadScript.{BadScript}
 use Rattle.neph_script.specs.Kinds.{kind_word}
 use Rattle.neph_script.specs.Spells.{Spells, IsFault}
 use Rattle.neph_model.specs.Machine.{is_over}
+use Rattle.neph_model.specs.Start.{start_machine}
+use Rattle.neph_model.specs.Frames.{AddsUp}
+use Rattle.neph_model.specs.Books.{counts}
 use Rattle.neph_model.specs.Run.{Ran, IsRun}
+use Rattle.neph_model.specs.Legal.{Legal}
 use Rattle.neph_model.specs.Transcript.{transcript}
 use Rattle.neph_top.specs.declared.status.Status.{Status}
 use Rattle.neph_top.specs.declared.status.Status.TheVariants.{Ended, Refused, TooLong, NoMemory, ReadFault, WriteFault}
 
--- the text is the transcript of the script's run, and no domain is live at its end
+-- the transcript of a script's run
+abbrev pub run_text : Script → Ran → List ℕ
+run_text s r = transcript s r.history (counts s r.last) r.stalled
+
+-- The text is the transcript of the script's run. Its history is a legal one, from the script's start to the last machine, where no domain is live; and the frames that are used and those that are free are all.
 pub record Transcribes (s : Script) (text : List ℕ) : Type 0 where
   pub ran : Ran
   pub run : IsRun s ran
-  pub ended : ran.stalled ≡ false
+  pub text_is : text ≡ run_text s ran
+  pub legal : Legal s (start_machine s) ran.history ran.last.machine
   pub over : is_over ran.last.machine ≡ true
-  pub text_is : text ≡ transcript s ran
+  pub ended : ran.stalled ≡ false
+  pub sum : AddsUp (counts s ran.last)
 
--- the text is the transcript of the run of the script that the bytes spell
+-- The text is the transcript of the run of the script that the bytes spell, and there is no other such text.
 pub record IsTranscript (bytes text : List ℕ) : Type 0 where
   pub script : Script
   pub spelled : Spells bytes script
   pub transcribed : Transcribes script text
+  pub one : (s : Script) (r : Ran) → Spells bytes s → IsRun s r → text ≡ run_text s r
 
 -- the text that names the first line that can't stand, and why
 abbrev pub refusal_text : BadScript → List ℕ
@@ -53,11 +64,6 @@ too_long_text = codes "too long\n"
 abbrev pub usage_text : List ℕ
 usage_text = codes "usage: nephele run or race N or gen SEED DOMAINS LINES\n"
 
--- what is to be written for these bytes
-abbrev pub Answers : List ℕ → List ℕ → Type 0
-Answers bytes text =
-    ((length bytes ≤ limit) × IsTranscript bytes text) ⊎ ((length bytes ≤ limit) × IsRefusal bytes text) ⊎ ((limit < length bytes) × (text ≡ too_long_text))
-
 -- what a call saw: the bytes that its source had left before and after it, those that its sink had taken, and how often each had failed
 pub record Seen : Type 0 where
   pub left : Option (List ℕ)
@@ -83,16 +89,28 @@ pub record WritesNothing (c : Seen) : Type 0 where
   pub taken : Appends c.old c.new []
   pub write : c.write_now ≡ c.write_before
 
--- the source was read to its end, and the sink took the transcript of the run of the script that its bytes spell
+-- These are the bytes that the source had left, where it tells them; they are no more than a script may have, and were read to their end.
+pub record Reads (c : Seen) (bytes : List ℕ) : Type 0 where
+  pub left : IfSome c.left (λ b. bytes ≡ b)
+  pub few : length bytes ≤ limit
+  pub whole : IsAtEnd c.rest
+
+-- the sink took the transcript of the run of the script that the bytes read spell
 pub record WritesTranscript (c : Seen) : Type 0 where
-  pub text : IfSome c.left (λ bytes. (length bytes ≤ limit) × ((text : List ℕ) × IsTranscript bytes text × Appends c.old c.new text))
-  pub read : IsAtEnd c.rest
+  pub bytes : List ℕ
+  pub read : Reads c bytes
+  pub text : List ℕ
+  pub is : IsTranscript bytes text
+  pub taken : Appends c.old c.new text
   pub faults : NoFault c
 
--- the source was read to its end, its bytes spell no script, and the sink took their first line that can't stand, with its kind
+-- the bytes read spell no script, and the sink took their first line that can't stand, with its kind
 pub record WritesRefusal (c : Seen) : Type 0 where
-  pub text : IfSome c.left (λ bytes. (length bytes ≤ limit) × ((text : List ℕ) × IsRefusal bytes text × Appends c.old c.new text))
-  pub read : IsAtEnd c.rest
+  pub bytes : List ℕ
+  pub read : Reads c bytes
+  pub text : List ℕ
+  pub is : IsRefusal bytes text
+  pub taken : Appends c.old c.new text
   pub faults : NoFault c
 
 -- the source gave more bytes than a script may have, and the sink took that answer
@@ -111,9 +129,17 @@ pub record FailsToRead (c : Seen) : Type 0 where
   pub nothing : WritesNothing c
   pub rose : Rose c.read_before c.read_now
 
+-- what was read is answered by this text: by its transcript, by its first line that can't stand, or as too long
+abbrev pub IsAnswer : Seen → List ℕ → Type 0
+IsAnswer c text =
+    ((bytes : List ℕ) × Reads c bytes × (IsTranscript bytes text ⊎ IsRefusal bytes text))
+    ⊎ (IfSome c.left (λ b. limit < length b) × (text ≡ too_long_text))
+
 -- the sink failed, and had taken some front of what was to be written
 pub record FailsToWrite (c : Seen) : Type 0 where
-  pub front : IfSome c.left (λ bytes. (text : List ℕ) × Answers bytes text × AppendsFront c.old c.new text)
+  pub text : List ℕ
+  pub answer : IsAnswer c text
+  pub front : AppendsFront c.old c.new text
   pub read : c.read_now ≡ c.read_before
   pub rose : Rose c.write_before c.write_now
 

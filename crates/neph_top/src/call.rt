@@ -1,6 +1,6 @@
 // Reading, running and writing, by the answer.
 ghost use Rattle.std.specs.Prelude.{◌≡◌, IfOk};
-ghost use Rattle.neph_model.specs.Lawful.{IsLawful};
+ghost use Rattle.neph_model.specs.WellFormed.{IsWellFormed};
 ghost use Rattle.neph_top.specs.Call.{Called, Transcribes, Tells, refusal_text, saw};
 
 use crate::status::Status;
@@ -53,11 +53,18 @@ fn refusal_text(alloc: Global, bad: BadScript) -> Result<Vec<u8>, NoMemory>
 
 // The transcript of a script's run.
 fn text_of(alloc: Global, script: &Script) -> Result<Vec<u8>, NoMemory>
-    requires { IsLawful script.now }
+    requires { IsWellFormed script.now }
     ensures { IfOk result (λ text. Transcribes script.now text.items) }
 {
-    let machine = play(alloc, script)?;
-    transcript(alloc, script, machine.history(), &machine.counts(), false)
+    let played = play(alloc, script)?;
+    let machine = &played.machine;
+    transcript(
+        alloc,
+        script,
+        machine.history(),
+        &machine.counts(),
+        played.stalled,
+    )
 }
 
 // Writes a text, and answers this status where the sink took all of it.

@@ -1,12 +1,13 @@
-use Rattle.std.proofs.Common.{arith, get_or, ◌==◌}
+use Rattle.std.proofs.Common.{◌<◌, arith, get_or, length, ◌==◌}
+use Rattle.std.proofs.lemmas.List.Elements.{All-get_or}
 use Rattle.std.proofs.lemmas.List.Sums.{count_by-le-length}
-use Rattle.neph_book.proofs.Counting.{within, times_more, one_left}
+use Rattle.neph_book.proofs.Counting.{times_more, one_left}
 use Rattle.neph_book.proofs.palette.join_all.Goals as goal
 
 pub join-requires-clause-given : goal.join-requires-clause-given
 join-requires-clause-given c =
-    let k = get_or c.args.colours.now c.loop-colour.colour-index 0 in
-    within _ k (omega (arith, c.requires.given k, one_left c.args.colours.now c.loop-colour.colour-index c.loop-colour-test.true, c.loop-colour.invariant.counts k))
+    let lt = All-get_or (λ k. k < length c.args.palette.now) c.args.colours.now c.loop-colour.colour-index 0 c.loop-colour-test.true c.requires.given in
+    omega (arith, lt, c.loop-colour.invariant.same)
 
 pub join-requires-clause-room : goal.join-requires-clause-room
 join-requires-clause-room c =

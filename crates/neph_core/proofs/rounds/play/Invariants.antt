@@ -1,4 +1,4 @@
-use Rattle.neph_model.specs.Measures.{work_left}
+use Rattle.neph_runs.specs.Work.{work_left}
 use Rattle.neph_core.proofs.Courses.{Reached}
 use Rattle.neph_core.proofs.rounds.play.Given as goal
 

@@ -1,5 +1,5 @@
 use Rattle.std.proofs.Common.{◌++◌, ◌∷◌, [], ap, sym, ◌∙◌}
-use Rattle.neph_flat.proofs.Starts.{range_more}
+use Rattle.neph_flat.proofs.StartLists.{range_more}
 use Rattle.neph_flat.proofs.start.start_leaves.Goals as goal
 
 pub loop-group-preserved : goal.loop-group-preserved

@@ -1,12 +1,9 @@
-use Rattle.std.proofs.Common.{ℕ, List, ◌≤◌, length, inl, inr}
-use Rattle.std.specs.Io.KnownBytes.{Appends}
-use Rattle.neph_top.specs.declared.status.Status.TheVariants.{Refused}
-use Rattle.neph_top.specs.Call.{Answers, IsRefusal, limit}
-use Rattle.neph_top.proofs.Answered.{tells, of_left, refusal}
+use Rattle.neph_top.specs.Call.{IsRefusal}
+use Rattle.neph_top.proofs.Answered.{tells_refusal, tells_transcript, transcript_of, refusal}
 use Rattle.neph_top.proofs.call.call.Goals as goal
 
 pub text_of-requires : goal.text_of-requires
-text_of-requires g c = c.in-Ok-parse.ensures.lawful
+text_of-requires g c = c.in-Ok-parse.ensures.formed
 
 pub returns-in-Err-Bad : goal.returns-in-Err-Bad
 returns-in-Err-Bad g c =
@@ -17,10 +14,14 @@ returns-in-Err-Bad g c =
     let text = c.in-Ok-refusal_text.text.items in
     let is : IsRefusal bytes text = refusal bytes text c.in-Err-Bad.bad only fault c.in-Ok-refusal_text.ensures in
     let told = rw c.deref-in-Ok-refusal_text.ensures.value at c.told-in-Ok-refusal_text.ensures in
-    tells _ text Refused c.told-in-Ok-refusal_text.result told (of_left _ bytes (λ xs. Answers xs text) read.0 (inr (inl (read.2, is)))) read.3
-    (λ took stood.
-    record {
-      text = of_left _ bytes (λ xs. (length xs ≤ limit) × ((t : List ℕ) × IsRefusal xs t × Appends _ _ t)) read.0 (read.2, (text, is, took));
-      read = read.1;
-      faults = record { read = read.3; write = stood };
-    })
+    tells_refusal _ bytes text c.told-in-Ok-refusal_text.result (record { left = read.0; few = read.2; whole = read.1 }) is read.3 told
+
+pub returns : goal.returns
+returns g c =
+    let read = c.in-Ok.ensures in
+    let bytes = c.in-Ok.bytes.items in
+    let spelled = rw (c.in-Ok-parse.script-is, c.deref.ensures.value) at c.in-Ok-parse.ensures.spelled in
+    let text = c.in-Ok-text_of.text.items in
+    let is = transcript_of bytes text c.in-Ok-parse.script spelled c.in-Ok-text_of.ensures in
+    let told = rw c.deref-in-Ok-text_of.ensures.value at c.told-in-Ok-text_of.ensures in
+    tells_transcript _ bytes text c.told-in-Ok-text_of.result (record { left = read.0; few = read.2; whole = read.1 }) is read.3 told

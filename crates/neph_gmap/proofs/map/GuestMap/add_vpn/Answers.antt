@@ -16,7 +16,7 @@ invariant_of-self c =
     let size = ap (λ (m : GuestPages). length m.pages) c.self.view_is in
     let fit : c.get.result < length rows.items = omega (arith, c.requires, size, c.self.invariant.0, rows.ok.0, c.self.inside.pages.ok.0, c.get.ensures.value) in
     let old = rw (row_at rows.items c.get.result c.index_mut-list.result.now fit c.index_mut-list.ensures.value) at (c.self.invariant.1 c.get.result) in
-    (c.self.invariant.0, rising_after rows.items c.get.result c.add_number.new.list c.self.invariant.1 (rising_added c.add_number.result c.add_number.new.list.items c.index_mut-list.result.now.items c.args.v c.add_number.ensures.ok c.add_number.ensures.err old))
+    (c.self.invariant.0, rising_after rows.items c.get.result c.add_number.new.list c.self.invariant.1 (rising_added c.add_number.result c.add_number.new.list.items c.index_mut-list.result.now.items c.args.v c.add_number.ensures.ok c.add_number.ensures.err old), c.self.invariant.2)
 
 pub returns-clause-ok : goal.returns-clause-ok
 returns-clause-ok c =

@@ -15,7 +15,7 @@ invariant_of-self c =
     let rows = c.self.inside.vpns in
     let fit : c.get-place.result < length rows.items = omega (arith, c.if-place-len.true, c.len.ensures, rows.ok.0) in
     let old = rw (row_at rows.items c.get-place.result c.index_mut-list.result.now fit c.index_mut-list.ensures.value) at (c.self.invariant.1 c.get-place.result) in
-    (c.self.invariant.0, rising_after rows.items c.get-place.result c.drop_number.new.list c.self.invariant.1 (rw c.drop_number.ensures (rising_without c.args.v c.index_mut-list.result.now.items old)))
+    (c.self.invariant.0, rising_after rows.items c.get-place.result c.drop_number.new.list c.self.invariant.1 (rw c.drop_number.ensures (rising_without c.args.v c.index_mut-list.result.now.items old)), c.self.invariant.2)
 
 pub returns-then-place-len : goal.returns-then-place-len
 returns-then-place-len c =

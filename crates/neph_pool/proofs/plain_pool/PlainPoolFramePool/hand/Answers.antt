@@ -1,39 +1,89 @@
-use Rattle.std.proofs.Common.{refl, sym, ap, ◌∙◌}
-use Rattle.neph_pool.specs.Entries.{is_here}
+use Rattle.std.proofs.Common.{◌≡◌, ◌≢◌, ℕ, true, set, length-set, refl, sym, ap, ◌∙◌, arith}
+use Rattle.neph_pool.specs.Entries.{is_here, hold_at}
+use Rattle.neph_pool.specs.Owners.{held_by}
 use Rattle.neph_pool.specs.Handing.{moved_into}
 use Rattle.neph_pool.specs.Rows.{row_entries}
 use Rattle.neph_pool.specs.Plain.{IsKept, plain_names}
-use Rattle.neph_pool.proofs.Rows.{in_frames, found, turn, room_for, hand_may, hand_left, hand_moved, rows_same, same_entry, told_same, count_fewer, kept_handed, fits_handed, room_of, moved_done, row_apart, apart_left, apart_right}
+use Rattle.neph_pool.proofs.Rows.{in_frames, find, seen, row_hold, some_held, few_held, full_set, counts_handed, moved_here, turn, room_for, hand_may, hand_left, hand_moved, rows_same, same_entry, told_same, count_fewer, kept_handed, fits_handed, room_of, left_done, moved_done, row_apart, apart_left, apart_right}
+use Rattle.neph_pool.proofs.Exclusive.{rows_exclusive}
+use Rattle.neph_pool.proofs.Walks.{walk_moved, may_walk, left_walked, moved_walked}
 use Rattle.neph_pool.proofs.plain_pool.PlainPoolFramePool.hand.Goals as goal
 
-pub index_mut-frame-requires : goal.index_mut-frame-requires
-index_mut-frame-requires c = let t = turn c.args.from.now.row c.args.to.now.row c.loop-f.self.frames.items c.args.part.now c.loop-f.f-index c.f-item.result c.loop-f-test.true c.f-item.is c.loop-f.invariant.may in in_frames c.args.from.now.row c.loop-f.self c.f-item.result _ t.may.0 c.get.ensures.value
+pub loop-f-init : goal.loop-f-init
+loop-f-init c = record {
+  size = refl;
+  rows = refl;
+  cap = refl;
+  shares = refl;
+  may = may_walk _ _ _ c.requires.part.once c.requires.part.each;
+  left = refl;
+  moved = refl;
+  others = λ r n m. refl;
+  fewer = omega arith;
+  full = c.requires.from.0.kept.full;
+  held = c.requires.from.0.kept.held;
+  told = refl;
+}
+
+pub owners-owners-requires : goal.owners-owners-requires
+owners-owners-requires c = let t = turn c.args.from.now.row c.args.to.now.row c.loop-f.self.frames c.args.part.now c.loop-f.f-index c.f-item.result c.loop-f-test.true c.f-item.is c.loop-f.invariant.may in in_frames c.args.from.now.row c.loop-f.self.frames c.f-item.result _ t.may.0 c.get-place.ensures.value
+
+pub put_owners-requires : goal.put_owners-requires
+put_owners-requires c = let t = turn c.args.from.now.row c.args.to.now.row c.loop-f.self.frames c.args.part.now c.loop-f.f-index c.f-item.result c.loop-f-test.true c.f-item.is c.loop-f.invariant.may in in_frames c.args.from.now.row c.loop-f.self.frames c.f-item.result _ t.may.0 c.get-place.ensures.value
 
 pub hand-requires-clause-part : goal.hand-requires-clause-part
-hand-requires-clause-part c = let t = turn c.args.from.now.row c.args.to.now.row c.loop-f.self.frames.items c.args.part.now c.loop-f.f-index c.f-item.result c.loop-f-test.true c.f-item.is c.loop-f.invariant.may in let h = found c.args.from.now.row c.loop-f.self.frames.items c.f-item.result c.get.result c.index_mut-frame.result.now t.may.0 c.get.ensures.value c.index_mut-frame.ensures.value in sym (ap is_here h.held) ∙ t.may.0
+hand-requires-clause-part c = let t = turn c.args.from.now.row c.args.to.now.row c.loop-f.self.frames c.args.part.now c.loop-f.f-index c.f-item.result c.loop-f-test.true c.f-item.is c.loop-f.invariant.may in let h = find c.args.from.now.row c.loop-f.self.frames c.f-item.result c.get-place.result c.owners-owners.result t.may.0 c.get-place.ensures.value c.owners-owners.ensures in sym (ap is_here h.held) ∙ t.may.0
 
 pub hand-requires-clause-room : goal.hand-requires-clause-room
-hand-requires-clause-room c = let t = turn c.args.from.now.row c.args.to.now.row c.loop-f.self.frames.items c.args.part.now c.loop-f.f-index c.f-item.result c.loop-f-test.true c.f-item.is c.loop-f.invariant.may in room_for _ _ _ _ _ (found c.args.from.now.row c.loop-f.self.frames.items c.f-item.result c.get.result c.index_mut-frame.result.now t.may.0 c.get.ensures.value c.index_mut-frame.ensures.value) t.may
+hand-requires-clause-room c = let t = turn c.args.from.now.row c.args.to.now.row c.loop-f.self.frames c.args.part.now c.loop-f.f-index c.f-item.result c.loop-f-test.true c.f-item.is c.loop-f.invariant.may in let h = find c.args.from.now.row c.loop-f.self.frames c.f-item.result c.get-place.result c.owners-owners.result t.may.0 c.get-place.ensures.value c.owners-owners.ensures in room_for _ _ _ _ _ h t.may
+
+pub recount-requires-clause-before : goal.recount-requires-clause-before
+recount-requires-clause-before c = let t = turn c.args.from.now.row c.args.to.now.row c.loop-f.self.frames c.args.part.now c.loop-f.f-index c.f-item.result c.loop-f-test.true c.f-item.is c.loop-f.invariant.may in λ _. some_held c.loop-f.self.held c.loop-f.self.frames c.args.from.now.row c.f-item.result c.loop-f.invariant.held c.requires.from.0.row t.may.0
+
+pub recount-requires-clause-small : goal.recount-requires-clause-small
+recount-requires-clause-small c = few_held c.loop-f.self.held c.loop-f.self.frames c.args.from.now.row c.loop-f.invariant.held (omega (arith, c.loop-f.invariant.size, c.requires.from.0.kept.few)) c.requires.from.0.row
+
+pub recount-requires-in-loop-f-clause-before : goal.recount-requires-in-loop-f-clause-before
+recount-requires-in-loop-f-clause-before c = λ yes.
+    let t = turn c.args.from.now.row c.args.to.now.row c.loop-f.self.frames c.args.part.now c.loop-f.f-index c.f-item.result c.loop-f-test.true c.f-item.is c.loop-f.invariant.may in
+    let h = find c.args.from.now.row c.loop-f.self.frames c.f-item.result c.get-place.result c.owners-owners.result t.may.0 c.get-place.ensures.value c.owners-owners.ensures in
+    let here : is_here (hold_at (row_entries c.args.to.now.row c.loop-f.self.frames) c.f-item.result) ≡ true = ap is_here (row_hold c.args.to.now.row c.loop-f.self.frames c.f-item.result _ h.fit h.at) ∙ sym c.holds-had.ensures ∙ yes in
+    rw (c.recount.ensures.others c.args.to.now.row (row_apart c.args.self.now c.args.from.now c.args.to.now c.requires.from.0 c.requires.to.0 c.requires.apart))
+    (some_held c.loop-f.self.held c.loop-f.self.frames c.args.to.now.row c.f-item.result c.loop-f.invariant.held c.requires.to.0.row here)
+
+pub recount-requires-in-loop-f-clause-small : goal.recount-requires-in-loop-f-clause-small
+recount-requires-in-loop-f-clause-small c =
+    rw (c.recount.ensures.others c.args.to.now.row (row_apart c.args.self.now c.args.from.now c.args.to.now c.requires.from.0 c.requires.to.0 c.requires.apart))
+    (few_held c.loop-f.self.held c.loop-f.self.frames c.args.to.now.row c.loop-f.invariant.held (omega (arith, c.loop-f.invariant.size, c.requires.from.0.kept.few)) c.requires.to.0.row)
 
 pub loop-f-preserved : goal.loop-f-preserved
 loop-f-preserved c =
     let i = c.loop-f.invariant in
     let a = c.args.from.now.row in
     let b = c.args.to.now.row in
-    let xs = c.loop-f.self.frames.items in
-    let t = turn a b xs c.args.part.now c.loop-f.f-index c.f-item.result c.loop-f-test.true c.f-item.is i.may in
-    let x = c.index_mut-frame.result.now in
-    let h = found a xs c.f-item.result c.get.result x t.may.0 c.get.ensures.value c.index_mut-frame.ensures.value in record {
-      length = i.length;
+    let xs = c.loop-f.self.frames in
+    let f = c.f-item.result in
+    let t = turn c.args.from.now.row c.args.to.now.row c.loop-f.self.frames c.args.part.now c.loop-f.f-index c.f-item.result c.loop-f-test.true c.f-item.is c.loop-f.invariant.may in
+    let h = find c.args.from.now.row c.loop-f.self.frames c.f-item.result c.get-place.result c.owners-owners.result t.may.0 c.get-place.ensures.value c.owners-owners.ensures in
+    let x = seen xs f c.owners-owners.result in
+    let y = seen xs f c.hand.new.self in
+    let is : c.put_owners.new.self ≡ set xs f y = c.put_owners.ensures ∙ ap (λ (j : ℕ). set xs j (seen xs j c.hand.new.self)) c.get-place.ensures.value in
+    let apart : b ≢ a = row_apart c.args.self.now c.args.from.now c.args.to.now c.requires.from.0 c.requires.to.0 c.requires.apart in
+    let here : is_here (held_by a x.owners) ≡ true = sym (ap is_here h.held) ∙ t.may.0 in
+    rw is record {
+      size = length-set xs f y ∙ i.size;
       rows = i.rows;
       cap = i.cap;
       shares = i.shares;
-      may = hand_may a b xs c.args.part.now c.loop-f.f-index c.f-item.result c.get.result x _ t h c.get.ensures.value c.hand.ensures.left c.hand.ensures.moved refl;
-      left = hand_left a b xs c.args.part.now c.loop-f.f-index c.f-item.result c.get.result x _ t h c.get.ensures.value c.hand.ensures.left c.hand.ensures.moved refl _ i.left;
-      moved = hand_moved a b xs c.args.part.now c.loop-f.f-index c.f-item.result c.get.result x _ t h c.get.ensures.value c.hand.ensures.left c.hand.ensures.moved refl _ i.moved;
-      others = λ r n m. rows_same r xs _ x _ c.index_mut-frame.ensures.value (same_entry r x _ (c.hand.ensures.others r n m) refl) ∙ i.others r n m;
-      fewer = count_fewer a xs c.get.result x _ _ c.index_mut-frame.ensures.value (sym (ap is_here h.held) ∙ t.may.0) i.fewer;
-      told = told_same xs _ x _ c.index_mut-frame.ensures.value c.hand.ensures.total ∙ i.told;
+      may = hand_may a b xs c.args.part.now c.loop-f.f-index f f x y t h refl c.hand.ensures.left c.hand.ensures.moved refl;
+      left = hand_left a b xs c.args.part.now c.loop-f.f-index f f x y t h refl c.hand.ensures.left c.hand.ensures.moved refl _ i.left;
+      moved = hand_moved a b xs c.args.part.now c.loop-f.f-index f f x y t h refl c.hand.ensures.left c.hand.ensures.moved refl _ i.moved;
+      others = λ r n m. rows_same r xs f x y h.at (same_entry r x y (c.hand.ensures.others r n m) refl) ∙ i.others r n m;
+      fewer = count_fewer a xs f x y _ h.at here i.fewer;
+      full = full_set xs f y (i.full f h.fit) i.full;
+      held = counts_handed c.loop-f.self.held c.recount.new.held c.recount-in-loop-f.new.held xs f x y a b c.holds-had.result c.holds-has.result (λ e. apart (sym e)) c.requires.from.0.row h.fit h.at i.held here
+          (moved_here _ _ here c.hand.ensures.moved) c.holds-had.ensures c.holds-has.ensures c.hand.ensures.others c.recount.ensures.own c.recount.ensures.others c.recount-in-loop-f.ensures.own c.recount-in-loop-f.ensures.others;
+      told = told_same xs f x y h.at c.hand.ensures.total ∙ i.told;
     }
 
 -- the pool after the last frame was handed over
@@ -43,9 +93,23 @@ after_all c =
     let p = c.args.self.now in
     let a = c.args.from.now.row in
     let b = c.args.to.now.row in
-    let all = moved_into (row_entries a p.frames.items) (row_entries b p.frames.items) c.args.part.now in
-    kept_handed p c.loop-f.self c.args.from.now.row c.args.to.now.row c.requires.from.0.kept i.rows i.cap i.others i.fewer
-    (λ ne. rw (moved_done (row_entries a c.loop-f.self.frames.items) (row_entries b c.loop-f.self.frames.items) all c.args.part.now c.loop-f.f-index c.loop-f-test.false i.moved) (room_of p c.args.to.now all c.requires.to.0 c.requires.room ne))
+    let es = row_entries a p.frames in
+    let to = row_entries b p.frames in
+    let part = c.args.part.now in
+    kept_handed p c.loop-f.self c.args.from.now.row c.args.to.now.row c.requires.from.0.kept i.rows i.cap (omega (arith, i.size, c.requires.from.0.kept.few)) i.full i.held i.others i.fewer
+    (λ ne. rw (moved_done (row_entries a c.loop-f.self.frames) (row_entries b c.loop-f.self.frames) (walk_moved es to part) part c.loop-f.f-index c.loop-f-test.false i.moved, moved_walked es to part c.requires.part.once)
+    (room_of p c.args.to.now (moved_into es to part) c.requires.to.0 c.requires.room ne))
+
+pub returns-clause-left : goal.returns-clause-left
+returns-clause-left c =
+    let es = row_entries c.args.from.now.row c.args.self.now.frames in
+    left_done _ _ c.args.part.now c.loop-f.f-index c.loop-f-test.false c.loop-f.invariant.left ∙ left_walked es c.args.part.now c.requires.part.once
+
+pub returns-clause-moved : goal.returns-clause-moved
+returns-clause-moved c =
+    let es = row_entries c.args.from.now.row c.args.self.now.frames in
+    let to = row_entries c.args.to.now.row c.args.self.now.frames in
+    moved_done (row_entries c.args.from.now.row c.loop-f.self.frames) _ _ c.args.part.now c.loop-f.f-index c.loop-f-test.false c.loop-f.invariant.moved ∙ moved_walked es to c.args.part.now c.requires.part.once
 
 pub returns-clause-from : goal.returns-clause-from
 returns-clause-from c = record { fits = fits_handed _ c.loop-f.self c.args.from.now c.requires.from.0 (after_all c) c.loop-f.invariant.rows; names = refl }
@@ -59,10 +123,16 @@ returns-clause-others c =
     let p = c.args.self.now in
     let from = c.args.from.now in
     let to = c.args.to.now in record {
-      frames = i.length;
+      frames = i.size;
       cap = i.cap;
       fits = λ t k a. fits_handed p c.loop-f.self t k (after_all c) i.rows;
       entries = λ t k a. i.others t.row
           (row_apart p from t c.requires.from.0 k (apart_left (plain_names from) (plain_names to) (plain_names t) a))
           (row_apart p to t c.requires.to.0 k (apart_right (plain_names from) (plain_names to) (plain_names t) a));
     }
+
+pub returns-clause-absent : goal.returns-clause-absent
+returns-clause-absent c = λ f m.
+    let from = c.args.from.now in
+    let to = c.args.to.now in
+    rows_exclusive from.row to.row c.args.self.now.frames f (λ e. row_apart c.args.self.now from to c.requires.from.0 c.requires.to.0 c.requires.apart (sym e)) (c.requires.part.each f m)

@@ -1,25 +1,45 @@
-use Rattle.std.proofs.Common.{Some, refl, sym, ap, ◌∙◌, ◌+◌}
+use Rattle.std.proofs.Common.{ℕ, Some, refl, sym, ap, ◌∙◌, ◌+◌, set}
 use Rattle.neph_pool.specs.Entries.{is_here}
-use Rattle.neph_pool.proofs.Rows.{in_frames, found, rows_with_hold, plain_changes, told_set, told_at, here_weight}
+use Rattle.neph_pool.proofs.Rows.{in_frames, find, seen, plain_changes, same_counts, told_at, told_set, rows_with_hold, here_weight}
 use Rattle.neph_pool.proofs.plain_pool.PlainPoolFramePool.share.Goals as goal
 
-pub index_mut-frame-requires : goal.index_mut-frame-requires
-index_mut-frame-requires c = in_frames _ c.args.self.now c.args.f _ (here_weight _ c.requires.frame) c.get.ensures.value
+pub owners-owners-requires : goal.owners-owners-requires
+owners-owners-requires c = in_frames _ c.args.self.now.frames c.args.f _ (here_weight _ c.requires.frame) c.get-place.ensures.value
+
+pub put_owners-requires : goal.put_owners-requires
+put_owners-requires c = in_frames _ c.args.self.now.frames c.args.f _ (here_weight _ c.requires.frame) c.get-place.ensures.value
 
 pub share-requires-clause-once : goal.share-requires-clause-once
-share-requires-clause-once c = (rw (found c.args.s.now.row c.args.self.now.frames.items c.args.f c.get.result c.index_mut-frame.result.now (here_weight _ c.requires.frame) c.get.ensures.value c.index_mut-frame.ensures.value).held at c.requires.frame)
+share-requires-clause-once c = let t = find c.args.s.now.row c.args.self.now.frames c.args.f c.get-place.result c.owners-owners.result (here_weight _ c.requires.frame) c.get-place.ensures.value c.owners-owners.ensures in rw t.held at c.requires.frame
 
 pub returns-clause-entries : goal.returns-clause-entries
 returns-clause-entries c =
-    let t = found c.args.s.now.row c.args.self.now.frames.items c.args.f c.get.result c.index_mut-frame.result.now (here_weight _ c.requires.frame) c.get.ensures.value c.index_mut-frame.ensures.value in
-    rw c.get.ensures.value (rows_with_hold _ _ _ c.index_mut-frame.result.now _ _ t.at (here_weight _ (rw (found c.args.s.now.row c.args.self.now.frames.items c.args.f c.get.result c.index_mut-frame.result.now (here_weight _ c.requires.frame) c.get.ensures.value c.index_mut-frame.ensures.value).held at c.requires.frame)) c.share.ensures.own refl)
+    let p = c.args.self.now in
+    let xs = p.frames in
+    let f = c.args.f in
+    let x = seen xs f c.owners-owners.result in
+    let y = seen xs f c.share.new.self in
+    let t = find c.args.s.now.row c.args.self.now.frames c.args.f c.get-place.result c.owners-owners.result (here_weight _ c.requires.frame) c.get-place.ensures.value c.owners-owners.ensures in
+    rw (c.put_owners.ensures, c.get-place.ensures.value) (rows_with_hold c.args.s.now.row xs f x y _ t.at (here_weight _ (rw t.held at c.requires.frame)) c.share.ensures.own refl)
 
 pub returns-clause-moves : goal.returns-clause-moves
 returns-clause-moves c =
-    let t = found c.args.s.now.row c.args.self.now.frames.items c.args.f c.get.result c.index_mut-frame.result.now (here_weight _ c.requires.frame) c.get.ensures.value c.index_mut-frame.ensures.value in
-    plain_changes _ c.args.s.now _ _ _ c.index_mut-frame.result.now _ c.requires.seat.0 refl refl c.index_mut-frame.ensures.value (sym (ap is_here t.held) ∙ (here_weight _ c.requires.frame)) c.share.ensures.others refl
+    let p = c.args.self.now in
+    let xs = p.frames in
+    let f = c.args.f in
+    let x = seen xs f c.owners-owners.result in
+    let y = seen xs f c.share.new.self in
+    let t = find c.args.s.now.row c.args.self.now.frames c.args.f c.get-place.result c.owners-owners.result (here_weight _ c.requires.frame) c.get-place.ensures.value c.owners-owners.ensures in
+    let here = sym (ap is_here t.held) ∙ (here_weight _ c.requires.frame) in
+    plain_changes p c.args.s.now _ f _ x y _ p.held c.requires.seat.0 refl refl t.fit t.at here c.share.ensures.others refl (c.put_owners.ensures ∙ ap (λ (i : ℕ). set xs i (seen xs i c.share.new.self)) c.get-place.ensures.value)
+    (same_counts p.held c.args.s.now.row x y here (ap is_here c.share.ensures.own) c.share.ensures.others)
 
 pub returns-clause-told : goal.returns-clause-told
 returns-clause-told c =
-    let t = found c.args.s.now.row c.args.self.now.frames.items c.args.f c.get.result c.index_mut-frame.result.now (here_weight _ c.requires.frame) c.get.ensures.value c.index_mut-frame.ensures.value in
-    rw c.get.ensures.value (ap Some (told_set c.args.self.now.frames.items c.args.f _ _ (c.share.ensures.total ∙ ap (λ k. k + 1) (sym (told_at _ _ _ t.fit t.at)))))
+    let p = c.args.self.now in
+    let xs = p.frames in
+    let f = c.args.f in
+    let x = seen xs f c.owners-owners.result in
+    let y = seen xs f c.share.new.self in
+    let t = find c.args.s.now.row c.args.self.now.frames c.args.f c.get-place.result c.owners-owners.result (here_weight _ c.requires.frame) c.get-place.ensures.value c.owners-owners.ensures in
+    rw (c.put_owners.ensures, c.get-place.ensures.value) (ap Some (told_set xs f _ y (c.share.ensures.total ∙ ap (λ k. k + 1) (sym (told_at _ _ _ t.fit t.at)))))

@@ -1,19 +1,37 @@
-use Rattle.std.proofs.Common.{Some, refl, sym, ap, ◌∙◌}
+use Rattle.std.proofs.Common.{ℕ, List, Some, refl, sym, ap, ◌∙◌, set, length-set}
 use Rattle.neph_pool.specs.Entries.{is_here}
-use Rattle.neph_pool.proofs.Rows.{in_frames, found, plain_moves, no_entry, sole_else, told_same, write_entries}
+use Rattle.neph_pool.specs.Frames.{PlainFrame, frame_at}
+use Rattle.neph_pool.proofs.Rows.{in_frames, find, plain_moves, no_entry, sole_else, told_same, write_entries}
 use Rattle.neph_pool.proofs.plain_pool.PlainPoolFramePool.write.Goals as goal
 
-pub index_mut-frame-requires : goal.index_mut-frame-requires
-index_mut-frame-requires c = in_frames _ c.args.self.now c.args.f _ (ap is_here c.requires.frame) c.get.ensures.value
+pub put_word-requires-clause-frame : goal.put_word-requires-clause-frame
+put_word-requires-clause-frame c = in_frames _ c.args.self.now.frames c.args.f _ (ap is_here c.requires.frame) c.get.ensures.value
+
+-- the frame with its new word
+abbrev written : List PlainFrame → ℕ → ℕ → ℕ → PlainFrame
+written xs f w v = record (frame_at xs f) { words = set (frame_at xs f).words w v }
 
 pub returns-clause-entries : goal.returns-clause-entries
-returns-clause-entries c = rw c.get.ensures.value (write_entries _ _ _ c.args.w c.args.v _ _ (found c.args.s.now.row c.args.self.now.frames.items c.args.f c.get.result c.index_mut-frame.result.now (ap is_here c.requires.frame) c.get.ensures.value c.index_mut-frame.ensures.value) c.requires.frame refl refl)
+returns-clause-entries c =
+    let xs = c.args.self.now.frames in
+    let t = find c.args.s.now.row xs c.args.f c.args.f (frame_at xs c.args.f).owners (ap is_here c.requires.frame) refl refl in
+    rw (c.put_word.ensures, c.get.ensures.value) (write_entries c.args.s.now.row xs c.args.f c.args.w c.args.v (frame_at xs c.args.f) (written xs c.args.f c.args.w c.args.v) t c.requires.frame refl refl)
 
 pub returns-clause-moves : goal.returns-clause-moves
 returns-clause-moves c =
-    let t = found c.args.s.now.row c.args.self.now.frames.items c.args.f c.get.result c.index_mut-frame.result.now (ap is_here c.requires.frame) c.get.ensures.value c.index_mut-frame.ensures.value in
+    let p = c.args.self.now in
+    let xs = p.frames in
+    let f = c.args.f in
+    let x = frame_at xs f in
+    let y = written xs f c.args.w c.args.v in
+    let t = find c.args.s.now.row xs f f x.owners (ap is_here c.requires.frame) refl refl in
     let held = sym t.held ∙ c.requires.frame in
-    plain_moves _ c.args.s.now _ _ _ c.index_mut-frame.result.now _ c.requires.seat.0 refl refl c.index_mut-frame.ensures.value (λ r n. no_entry r _ _ (sole_else c.index_mut-frame.result.now.owners r _ held n) (sole_else c.index_mut-frame.result.now.owners r _ held n)) (λ r h. h)
+    plain_moves p f _ x y _ p.held (c.put_word.ensures ∙ ap (λ (i : ℕ). set xs i (written xs i c.args.w c.args.v)) c.get.ensures.value) t.fit t.at (length-set x.words c.args.w c.args.v ∙ c.requires.seat.0.kept.full f t.fit) (λ r h. h) (λ r lt. refl)
+    c.args.s.now c.requires.seat.0 (λ r n. no_entry r x y (sole_else x.owners r c.args.s.now.row held n) (sole_else x.owners r c.args.s.now.row held n)) _ refl refl
 
 pub returns-clause-counts : goal.returns-clause-counts
-returns-clause-counts c = record { shares = refl; told = ap Some (told_same _ _ _ _ c.index_mut-frame.ensures.value refl) }
+returns-clause-counts c =
+    let xs = c.args.self.now.frames in
+    let f = c.args.f in
+    let t = find c.args.s.now.row xs f f (frame_at xs f).owners (ap is_here c.requires.frame) refl refl in
+    record { shares = refl; told = rw (c.put_word.ensures, c.get.ensures.value) (ap Some (told_same xs f (frame_at xs f) (written xs f c.args.w c.args.v) t.at refl)) }

@@ -4,7 +4,7 @@ use Rattle.neph_pool.specs.declared.entry.Entry.{Entry}
 use Rattle.neph_pool.specs.Entries.{words_at, with_word, with_words, is_here, IsShaped}
 use Rattle.neph_ptab.specs.Bits.{root_word}
 use Rattle.neph_ptab.specs.Tables.{zero_words}
-use Rattle.neph_ptab.proofs.Changing.{place_small, same_word, leaf_leaves, leaf_stands, leaf_walks}
+use Rattle.neph_ptab.proofs.Changing.{place_small, same_word, leaf_leaves, leaf_stands, leaf_walks, leaf_holds, leaf_words}
 use Rattle.neph_ptab.proofs.tables.Tables.add_leaf.Given as given
 use Rattle.neph_ptab.proofs.tables.Tables.add_leaf.Goals as goal
 
@@ -34,3 +34,9 @@ returns-clause-walks g c = λ u lt. rw (changed g c)
 pub returns-clause-stands : goal.returns-clause-stands
 returns-clause-stands g c = rw (changed g c)
     (leaf_stands (before g c) c.args.self.now.root c.requires.stands (c.args.v / 512) (place_small c.args.v c.root_place.ensures.range) c.requires.needed c.args.frame c.root_word.ensures.range c.requires.frame c.requires.root c.requires.new (long g c))
+
+pub returns-clause-holds : goal.returns-clause-holds
+returns-clause-holds g c = λ f. rw (changed g c) (leaf_holds (before g c) c.args.self.now.root c.requires.stands (c.args.v / 512) (place_small c.args.v c.root_place.ensures.range) c.requires.needed c.args.frame c.root_word.ensures.range c.requires.frame c.requires.root c.requires.new (long g c) f)
+
+pub returns-clause-words : goal.returns-clause-words
+returns-clause-words g c = λ f n m. rw (changed g c) (leaf_words (before g c) c.args.self.now.root c.requires.stands (c.args.v / 512) (place_small c.args.v c.root_place.ensures.range) c.requires.needed c.args.frame c.root_word.ensures.range c.requires.frame c.requires.root c.requires.new (long g c) f n m)

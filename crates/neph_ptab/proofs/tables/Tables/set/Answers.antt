@@ -5,6 +5,7 @@ use Rattle.neph_pool.specs.Entries.{words_at, with_word, is_here, IsShaped}
 use Rattle.neph_ptab.specs.Bits.{walk_word}
 use Rattle.neph_ptab.specs.Tables.{leaf_at}
 use Rattle.neph_ptab.proofs.Changing.{place_small, same_word, set_leaves, set_stands, set_walks}
+use Rattle.neph_ptab.proofs.Retabling.{set_retabled}
 use Rattle.neph_ptab.proofs.tables.Tables.set.Given as given
 use Rattle.neph_ptab.proofs.tables.Tables.set.Goals as goal
 
@@ -28,14 +29,18 @@ fits g c =
     let small = c.leaf_place.ensures.small in
     omega arith
 
-pub returns-clause-leaves : goal.returns-clause-leaves
-returns-clause-leaves g c = λ i lt. rw (changed g c)
-    (set_leaves (before g c) c.args.self.now.root c.requires.stands (c.args.v / 512) c.leaf_place.result c.unwrap-leaf.result (place_small c.args.v c.leaf_place.ensures.range) (leaf g c) (fits g c) c.args.to c.walk_word.ensures.range i)
-
 pub returns-clause-walks : goal.returns-clause-walks
 returns-clause-walks g c = λ u lt. rw (changed g c)
-    (set_walks (before g c) c.args.self.now.root c.requires.stands (c.args.v / 512) c.leaf_place.result c.unwrap-leaf.result (place_small c.args.v c.leaf_place.ensures.range) (leaf g c) (fits g c) c.args.to c.walk_word.ensures.range c.args.v u refl (sym c.leaf_place.ensures.value) lt)
+    (set_walks (before g c) c.args.self.now.root c.requires.stands (c.args.v / 512) c.leaf_place.result c.unwrap-leaf.result (place_small c.args.v c.leaf_place.ensures.range) (leaf g c) (fits g c) c.args.to c.walk_word.ensures.range c.requires.to c.args.v u refl (sym c.leaf_place.ensures.value) lt)
 
-pub returns-clause-stands : goal.returns-clause-stands
-returns-clause-stands g c = rw (changed g c)
-    (set_stands (before g c) c.args.self.now.root c.requires.stands (c.args.v / 512) c.leaf_place.result c.unwrap-leaf.result (place_small c.args.v c.leaf_place.ensures.range) (leaf g c) (fits g c) c.args.to c.walk_word.ensures.range)
+pub returns-clause-tables : goal.returns-clause-tables
+returns-clause-tables g c =
+    let es = before g c in
+    let root = c.args.self.now.root in
+    let at = c.args.v / 512 in
+    let small = place_small c.args.v c.leaf_place.ensures.range in
+    let fs = with_word es c.unwrap-leaf.result c.leaf_place.result (walk_word c.args.to) in
+    rw (changed g c)
+    (set_retabled es fs root at c.unwrap-leaf.result c.leaf_place.result (walk_word c.args.to) small (leaf g c) refl
+    (set_leaves es root c.requires.stands at c.leaf_place.result c.unwrap-leaf.result small (leaf g c) (fits g c) c.args.to c.walk_word.ensures.range c.requires.to)
+    (set_stands es root c.requires.stands at c.leaf_place.result c.unwrap-leaf.result small (leaf g c) (fits g c) c.args.to c.walk_word.ensures.range c.requires.to))

@@ -1,0 +1,11 @@
+pub mod Local
+pub mod Ends
+pub mod Home
+pub mod Cut
+pub mod Woven
+pub mod Plainly
+pub mod Refusals
+pub mod Apart
+pub mod Flatly
+pub mod Children
+pub mod Alone

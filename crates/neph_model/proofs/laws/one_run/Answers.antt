@@ -1,5 +1,0 @@
-use Rattle.neph_model.proofs.Runs as runs
-use Rattle.neph_model.proofs.laws.one_run.Goals as goal
-
-pub returns : goal.returns
-returns c = runs.one_run

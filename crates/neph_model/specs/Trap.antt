@@ -1,0 +1,108 @@
+-- The hypervisor's calls: the rows of the commands under the lock, on the shared half and what the own half lends.
+use Rattle.std.specs.Prelude.{ℕ, Bool, false, if◌then◌else◌, ◌+◌, ◌%◌, nat_lt, nat_le, List, [], ◌∷◌, ◌++◌, take, drop, Option, None, Some, is_some, Result, Ok, Err, slice_set, unwrap_or}
+use Rattle.std.specs.Option.{option_map_or}
+use Rattle.std.specs.FinMap as fm
+use Rattle.neph_base.specs.declared.command.Command.{Command}
+use Rattle.neph_base.specs.declared.command.Command.TheVariants as command
+use Rattle.neph_base.specs.declared.command.Mode.{Mode}
+use Rattle.neph_base.specs.declared.command.Mode.TheVariants.{Ro, Rw}
+use Rattle.neph_base.specs.declared.reply.Reply.{Reply}
+use Rattle.neph_base.specs.declared.reply.Reply.TheVariants as reply
+use Rattle.neph_base.specs.declared.reply.Refusal.{Refusal}
+use Rattle.neph_base.specs.declared.reply.Refusal.TheVariants as refusal
+use Rattle.neph_model.specs.declared.memory.Mapping.{Mapping}
+use Rattle.neph_model.specs.declared.told.Told.{Told}
+use Rattle.neph_model.specs.declared.told.Told.TheVariants.{Enough, Short, Free}
+use Rattle.neph_model.specs.Memory.{page_with_bytes}
+use Rattle.neph_model.specs.Machine.{Life, Guest, Tables, Exposed, Shared, exposed_at, life_at, put_guest}
+use Rattle.neph_model.specs.Lent.{Lent, PageBack}
+
+-- what a call that is accepted leaves: the tables and the exposed pages behind it, its reply, and a page that it gives back
+pub record Accepted : Type 0 where
+  pub tables : Tables
+  pub pages : List Exposed
+  pub reply : Reply
+  pub back : Option PageBack
+
+-- what a call comes to
+abbrev pub CallResult : Type 0
+CallResult = Result Accepted Refusal
+
+-- accepted, with this shared half
+abbrev pub answers : Shared → Reply → CallResult
+answers sh reply = Ok (record { tables = sh.tables; pages = sh.pages; reply = reply; back = None })
+
+-- a page of a domain, where it is exposed
+abbrev pub exposed_page : List Exposed → ℕ → ℕ → Option (List ℕ)
+exposed_page pages id pfn = fm.get (exposed_at id pages) pfn
+
+-- a page of a domain is exposed
+abbrev pub is_exposed : List Exposed → ℕ → ℕ → Bool
+is_exposed pages id pfn = is_some (exposed_page pages id pfn)
+
+-- the bytes of an exposed page
+abbrev pub exposed_bytes : List Exposed → ℕ → ℕ → List ℕ
+exposed_bytes pages id pfn = unwrap_or (exposed_page pages id pfn) []
+
+-- the exposed pages with these as the bytes of one
+abbrev pub with_exposed : List Exposed → ℕ → ℕ → List ℕ → List Exposed
+with_exposed pages id pfn bytes = slice_set pages id (fm.insert (exposed_at id pages) pfn bytes)
+
+-- the exposed pages with these bytes at an offset of one
+abbrev pub with_exposed_bytes : List Exposed → ℕ → ℕ → ℕ → List ℕ → List Exposed
+with_exposed_bytes pages id pfn at bytes = with_exposed pages id pfn (page_with_bytes (exposed_bytes pages id pfn) at bytes)
+
+-- `w` to an exposed page. To a page of its own a domain asks only where no frame is left.
+abbrev pub w_call : Shared → ℕ → ℕ → List ℕ → Option Mapping → CallResult
+w_call sh id at bytes None = Err refusal.NoFrame
+w_call sh id at bytes (Some to) = if is_exposed sh.pages id to.pfn then by to.mode else Err refusal.NoFrame where
+  by : Mode → CallResult
+  by Ro = Err refusal.ReadOnly
+  by Rw = answers (record sh { pages = with_exposed_bytes sh.pages id to.pfn at bytes }) reply.Done
+
+-- `r` of n bytes of an exposed page
+abbrev pub r_call : Shared → ℕ → ℕ → ℕ → Option Mapping → CallResult
+r_call sh id at n met = answers sh (reply.Bytes (option_map_or (λ (x : Mapping). take n (drop at (exposed_bytes sh.pages id x.pfn))) met []))
+
+-- the number that `free` is told
+abbrev pub free_told : Told → ℕ
+free_told Enough = 0
+free_told Short = 0
+free_told (Free f) = f
+
+-- the frames that a clone needs: for its root table, its leaf tables, its identity page and its exposed pages
+abbrev pub need : Exposed → ℕ → ℕ
+need exposed leaves = 2 + leaves + fm.len exposed
+
+-- the refusal of a clone that needs n frames, by what it is told of them
+abbrev pub lacks_frames : ℕ → Told → Option Refusal
+lacks_frames n Enough = None
+lacks_frames n Short = None
+lacks_frames n (Free f) = if nat_lt f n then Some (refusal.Frames n f) else None
+
+-- Why a clone of a domain that was born so is refused, if it is: the domain has begun as many as its limit, every id was given, or too few frames are free.
+abbrev pub clone_refusal : Tables → Guest → Option Life → ℕ → Told → Option Refusal
+clone_refusal t g None n told = Some refusal.Limit
+clone_refusal t g (Some life) n told =
+    if nat_le life.limit g.accepted then Some refusal.Limit else (if nat_le 64 t.next then Some refusal.Ids else lacks_frames n told)
+
+-- A clone begins: the next id is drawn for the child, and the clone counts.
+abbrev pub begin_clone : Tables → ℕ → Guest → Tables
+begin_clone t id g = record (put_guest id (record g { begun = g.begun ++ t.next ∷ []; accepted = g.accepted + 1 }) t) { next = t.next + 1 }
+
+-- `clone`, refused so or begun
+abbrev pub clone_call : Shared → ℕ → Guest → Option Refusal → CallResult
+clone_call sh id g (Some why) = Err why
+clone_call sh id g None = answers (record sh { tables = begin_clone sh.tables id g }) (reply.Begun sh.tables.next)
+
+-- What a command of a domain asks of the hypervisor, by its rules. A local command asks only where no frame is left.
+abbrev pub trap : Shared → ℕ → Guest → Lent → Told → Command → CallResult
+trap sh id g l told (command.W addr bytes) = w_call sh id (addr % 4096) bytes l.met
+trap sh id g l told (command.R addr len) = r_call sh id (addr % 4096) len l.met
+trap sh id g l told command.Free = answers sh (reply.Number (free_told told))
+trap sh id g l told command.Clone = clone_call sh id g (clone_refusal sh.tables g (life_at id sh.lives) (need (exposed_at id sh.pages) l.leaves) told)
+trap sh id g l told _ = Err refusal.NoFrame
+
+-- a command that a domain can't do yet: none of today's waits for anything
+abbrev pub is_blocked : Shared → ℕ → Command → Bool
+is_blocked sh id c = false

@@ -1,0 +1,92 @@
+// The words of all frames, made when they are first written.
+ghost use Rattle.std.specs.Prelude.{◌≡◌, ◌≢◌, ◌+◌, ◌<◌, ◌≤◌, ℕ, [], length, slice_index, slice_index_or, slice_set, replicate, vec_len, vec_capacity, IfOk, map};
+ghost use Rattle.neph_pool.specs.Page.{page_words, blank_page, unmade};
+
+use crate::page::Page;
+use crate::pool::FRAME_WORDS;
+use neph_base::{MAX_FRAMES, NoMemory};
+use std::alloc::Global;
+
+/// The words of all frames. A frame that was never written has no page of its own: its place is 0,
+/// where a page of zeros lies.
+#[derive(Drop)]
+pub struct Pages {
+    places: Vec<u16>,
+    made: Vec<Page>,
+    pub ghost within: { (f : ℕ) → slice_index places.items f < vec_len made },
+    pub ghost apart: { (f g : ℕ) → f ≢ g
+        → slice_index places.items f ≡ slice_index places.items g → slice_index places.items f ≡ 0 },
+    pub ghost blank: { slice_index_or (page_words made.items) 0 [] ≡ blank_page },
+    pub ghost counted: { vec_len made + unmade places.items ≡ length places.items + 1 },
+    pub ghost room: { length places.items < vec_capacity made },
+    pub ghost small: { length places.items ≤ 16384 },
+}
+
+impl Pages {
+    ghost use Rattle.neph_pool.specs.Pages.{words_of, frame_count};
+
+    /// The words of so many frames, all 0. Room for all of them is set aside, and nothing is
+    /// written there.
+    pub fn new(alloc: Global, frames: u32) -> Result<Pages, NoMemory>
+        requires { frames ≤ MAX_FRAMES }
+        ensures words { IfOk result (λ p. words_of p ≡ replicate frames blank_page) }
+        ensures frames { IfOk result (λ p. frame_count p ≡ frames) }
+    {
+        let mut places = Vec::with_capacity(alloc, frames as usize)?;
+        places.resize(frames as usize, 0u16)?;
+        let mut made = Vec::with_capacity(alloc, frames as usize + 1)?;
+        made.push_reserved(Page { words: [0; 512] });
+        Ok(Pages { places, made })
+    }
+
+    /// The word `w` of the frame `f`.
+    pub fn read(&self, f: usize, w: usize) -> u64
+        requires frame { f < frame_count self.now }
+        requires word { w < FRAME_WORDS }
+        ensures { result ≡ slice_index (slice_index_or (words_of self.now) f []) w }
+    {
+        self.made[self.places[f] as usize].words[w]
+    }
+
+    // Where the frame's own page lies. It is made, with the words that the frame has.
+    fn own(&mut self, f: usize) -> usize
+        requires { f < frame_count self.old }
+        ensures place { result ≡ slice_index self.new.places.items f }
+        ensures own { result ≢ 0 }
+        ensures words { words_of self.new ≡ words_of self.old }
+        ensures frames { frame_count self.new ≡ frame_count self.old }
+    {
+        let place = self.places[f] as usize;
+        if place > 0 {
+            return place;
+        }
+        let next = self.made.len();
+        self.made.push_reserved(Page { words: [0; 512] });
+        self.places[f] = next as u16;
+        next
+    }
+
+    /// Writes the word `w` of the frame `f`.
+    pub fn write(&mut self, f: usize, w: usize, v: u64)
+        requires frame { f < frame_count self.old }
+        requires word { w < FRAME_WORDS }
+        ensures words { words_of self.new ≡ slice_set (words_of self.old) f
+            (slice_set (slice_index_or (words_of self.old) f []) w v) }
+        ensures frames { frame_count self.new ≡ frame_count self.old }
+    {
+        let place = self.own(f);
+        self.made[place].words[w] = v;
+    }
+
+    /// The frame `to` gets the words of the frame `from`.
+    pub fn copy(&mut self, from: usize, to: usize)
+        requires frames { (from < frame_count self.old) × (to < frame_count self.old) }
+        ensures words { words_of self.new
+            ≡ slice_set (words_of self.old) to (slice_index_or (words_of self.old) from []) }
+        ensures frames { frame_count self.new ≡ frame_count self.old }
+    {
+        let place = self.own(to);
+        let words = self.made[self.places[from] as usize].words;
+        self.made[place].words = words;
+    }
+}

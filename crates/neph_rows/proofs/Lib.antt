@@ -1,0 +1,4 @@
+pub mod SlotGuests
+pub mod Sound
+pub mod SlotFacts
+pub mod RecordRows

@@ -1,0 +1,5 @@
+pub mod Records
+pub mod Slots
+pub mod Sound
+pub mod Kept
+pub mod Row

@@ -1,0 +1,78 @@
+// The row of `clone`.
+ghost use Rattle.std.specs.Prelude.{◌≡◌, ◌≤◌, ◌+◌, ℕ, IfNone};
+ghost use Rattle.neph_model.specs.Machine.{exposed_at, guest_at, life_at};
+ghost use Rattle.neph_model.specs.Step.{call_effect, locked};
+ghost use Rattle.neph_model.specs.Trap.{need, begin_clone, clone_call, clone_refusal};
+ghost use Rattle.neph_rows.specs.Records.{shared_of};
+ghost use Rattle.neph_rows.specs.Sound.{MayBegin};
+
+use crate::exposed_pages::ExposedPages;
+use crate::registry::Registry;
+use crate::slots::count_clone;
+use neph_base::{DomId, Refusal, Reply};
+use neph_model::Told;
+
+/// The frames that a clone of a domain with so many leaf tables needs: for its root table, its leaf tables, its identity page and its exposed pages.
+pub fn need<E: ExposedPages>(pages: &E, dom: DomId, leaves: u32) -> u32
+    requires fits { E.fits pages.now }
+    requires few { leaves ≤ 65535 }
+    ensures value { result ≡ need (exposed_at dom (E.pages pages.now)) leaves }
+    ensures few { result ≤ leaves + 1026 }
+{
+    2 + leaves + pages.count(dom)
+}
+
+/// Begins a clone of a domain, whose child has the next id, or refuses it.
+pub fn clone_call<E: ExposedPages>(
+    r: &mut Registry,
+    pages: &E,
+    dom: DomId,
+    leaves: u32,
+    told: Told,
+) -> Reply
+    requires fits { E.fits pages.now }
+    requires few { leaves ≤ 65535 }
+    ensures { let sh = shared_of r.old (E.pages pages.now) in
+        let g = guest_at dom r.old.tables in
+        let n = need (exposed_at dom (E.pages pages.now)) leaves in
+        call_effect sh (clone_call sh dom g (clone_refusal r.old.tables g (life_at dom r.old.lives) n told))
+        ≡ locked (shared_of r.new (E.pages pages.now)) result }
+{
+    let need = need(pages, dom, leaves);
+    if let Some(why) = clone_refusal(r, dom, need, told) {
+        return Reply::Refused(why);
+    }
+    Reply::Begun(begin(r, dom))
+}
+
+// Why a clone of a domain that needs so many frames is refused, if it is.
+fn clone_refusal(r: &Registry, dom: DomId, need: u32, told: Told) -> Option<Refusal>
+    ensures why { result ≡ clone_refusal r.now.tables (guest_at dom r.now.tables) (life_at dom r.now.lives) need told }
+    ensures open { IfNone result (MayBegin r.now dom) }
+{
+    let Some(life) = r.lives[dom.get() as usize] else {
+        return Some(Refusal::Limit);
+    };
+    if life.limit <= r.slots[dom.get() as usize].accepted {
+        return Some(Refusal::Limit);
+    }
+    if r.next >= 64 {
+        return Some(Refusal::Ids);
+    }
+    match told {
+        Told::Free(free) if free < need => Some(Refusal::Frames { need, free }),
+        _ => None,
+    }
+}
+
+// Begins a clone: the next id is drawn for the child, and the clone counts.
+fn begin(r: &mut Registry, dom: DomId) -> DomId
+    requires { MayBegin r.old dom }
+    ensures child { result ≡ r.old.tables.next }
+    ensures records { r.new ≡ record r.old { tables = begin_clone r.old.tables dom (guest_at dom r.old.tables) } }
+{
+    let child = DomId::new(u32::from(r.next)).unwrap();
+    count_clone(&mut r.slots, dom.get() as usize, child);
+    r.next += 1;
+    child
+}

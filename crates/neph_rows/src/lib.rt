@@ -1,0 +1,18 @@
+//! The hypervisor's tables, and the rows of the entries under the lock on them, over exposed pages that are kept anyhow.
+#![tactic(auto)]
+
+mod births;
+mod clone;
+mod exposed_pages;
+mod lent;
+mod memory;
+mod registry;
+mod slots;
+mod trap;
+
+pub use births::{commit, join};
+pub use clone::need;
+pub use exposed_pages::ExposedPages;
+pub use lent::Lent;
+pub use registry::Registry;
+pub use trap::line;
