@@ -1,0 +1,11 @@
+pub mod Spans
+pub mod InWords
+pub mod Fields
+pub mod P9Pages
+pub mod Counts
+pub mod Rings
+pub mod Slots
+pub mod Queues
+pub mod NetParts
+pub mod Quiet
+pub mod FrameSteps
