@@ -1,0 +1,39 @@
+use Rattle.std.proofs.Common.{◌≡◌, ◌∷◌, List, length, sym, ap, subst, ◌∙◌, arith}
+use Rattle.std.specs.Vec.Iter.{into_iter_items, into_iter_len}
+use Rattle.neph_tree.specs.Nodes.{Nodes}
+use Rattle.neph_tree.specs.Entries.{shown}
+use Rattle.neph_tree.specs.Growth.{HasEach, with_values}
+use Rattle.neph_tree.proofs.EntryLemmas.{no_entries}
+use Rattle.neph_tree.proofs.TreeLemmas.{HasEach-insert}
+use Rattle.neph_tree.proofs.growth.fill.Goals as goal
+
+pub loop-path-init : goal.loop-path-init
+loop-path-init c =
+    let gives = c.into_iter-path-iterator.ensures.into_iter_gives in
+    record {
+      all = ap (λ xs. with_values c.args.nodes.now (shown xs)) gives.0;
+      there = rw gives.0 c.requires;
+      counted = gives.1 ∙ c.args.list.ok.0 ∙ ap (λ xs. length xs) (sym gives.0);
+    }
+
+pub replace-requires : goal.replace-requires
+replace-requires c =
+    let there = rw c.in-Some.ensures.steps.0 at c.loop-path.invariant.there in
+    there.0
+
+pub loop-path-preserved : goal.loop-path-preserved
+loop-path-preserved c =
+    let steps = c.in-Some.ensures.steps in
+    let there = rw steps.0 at c.loop-path.invariant.there in
+    let rest = shown (into_iter_items c.next.new.self) in
+    let Has : Nodes → Type 0 = λ m. HasEach m rest in
+    record {
+      all = ap (λ m. with_values m rest) c.replace.ensures ∙ ap (λ xs. with_values c.loop-path.nodes (shown xs)) (sym steps.0) ∙ c.loop-path.invariant.all;
+      there = subst Has (sym c.replace.ensures) (HasEach-insert c.loop-path.nodes c.in-Some.path.items c.in-Some.value.items rest there.1);
+      counted = omega (arith, steps.1, c.loop-path.invariant.counted, ap (λ xs. length xs) steps.0);
+    }
+
+pub returns : goal.returns
+returns c =
+    let none = no_entries (into_iter_items c.loop-path.path-iterator) (sym c.loop-path.invariant.counted ∙ c.in-None.ensures.steps.0) in
+    ap (λ xs. with_values c.loop-path.nodes (shown xs)) (sym none) ∙ c.loop-path.invariant.all

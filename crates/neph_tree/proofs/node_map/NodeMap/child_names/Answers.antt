@@ -1,0 +1,30 @@
+use Rattle.std.proofs.Common.{◌≡◌, ℕ, List, [], ◌∷◌, ◌++◌, map, refl, sym, ap, ◌∙◌}
+use Rattle.std.proofs.lemmas.List.{append-nil}
+use Rattle.std.specs.Prelude.{Vec}
+use Rattle.std.specs.FinMap.{entries}
+use Rattle.std.specs.List.{filter_map}
+use Rattle.neph_tree.specs.Places.{child_name}
+use Rattle.neph_tree.specs.Entries.{shown}
+use Rattle.neph_tree.proofs.EntryLemmas.{entries-shown}
+use Rattle.neph_tree.proofs.node_map.NodeMap.child_names.Goals as goal
+
+keys_twice : {A : Type 0} (es : List (Vec ℕ A × Vec ℕ A)) → map (λ e. e.0) (shown es) ≡ map (λ e. e.0.items) es
+keys_twice [] = refl
+keys_twice (e ∷ es) = ap (λ ks. e.0.items ∷ ks) (keys_twice es)
+
+keys_apart : {A : Type 0} (es : List (Vec ℕ A × Vec ℕ A)) → map (λ k. k.items) (map (λ e. e.0) es) ≡ map (λ e. e.0.items) es
+keys_apart [] = refl
+keys_apart (e ∷ es) = ap (λ ks. e.0.items ∷ ks) (keys_apart es)
+
+pub loop-path-init : goal.loop-path-init
+loop-path-init c =
+    ap (λ (front : List (List ℕ)). front ++ filter_map (λ k. child_name c.args.directory.now k) (map (λ k. k.items) c.into_iter-path-iterator.result)) c.new-names.ensures.items
+    ∙ ap (λ ks. filter_map (λ k. child_name c.args.directory.now k) (map (λ k. k.items) ks)) (c.into_iter-path-iterator.ensures.into_iter_gives ∙ c.keys-path-items.ensures.rest)
+    ∙ ap (λ ks. filter_map (λ k. child_name c.args.directory.now k) ks) (keys_apart c.self.inside.entries.entries)
+
+pub returns : goal.returns
+returns c =
+    let es = c.self.inside.entries.entries in
+    let names = filter_map (λ k. child_name c.args.directory.now k) in
+    let done : c.loop-path.names.items ++ [] ≡ names (map (λ e. e.0.items) es) = ap (λ left. c.loop-path.names.items ++ names (map (λ k. k.items) left)) (sym c.in-None.ensures.steps.0) ∙ c.loop-path.invariant in
+    c.of-2.ensures ∙ sym (append-nil _) ∙ done ∙ ap names (sym (keys_twice es)) ∙ ap (λ all. names (map (λ e. e.0) all)) (sym (entries-shown es c.keys-path-items.ensures.ordered) ∙ ap (λ m. entries m) c.self.view_is)

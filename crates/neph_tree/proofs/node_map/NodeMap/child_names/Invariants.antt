@@ -1,0 +1,8 @@
+use Rattle.std.proofs.Common.{◌≡◌, ◌+◌, ◌++◌, map, length}
+use Rattle.std.specs.List.{filter, filter_map}
+use Rattle.neph_tree.specs.Places.{is_within, child_name}
+use Rattle.neph_tree.specs.Entries.{shown}
+use Rattle.neph_tree.proofs.node_map.NodeMap.child_names.Given as goal
+
+abbrev pub invariant-loop-path : goal.invariant-loop-path
+invariant-loop-path l = l.names.items ++ filter_map (λ k. child_name l.directory k) (map (λ k. k.items) l.path-iterator) ≡ filter_map (λ k. child_name l.directory k) (map (λ e. e.0.items) l.self-inside.entries.entries)

@@ -1,0 +1,14 @@
+use Rattle.std.proofs.Common.{rules, ◌≡◌, sym, ap, ◌∙◌}
+use Rattle.std.specs.Prelude.{not}
+use Rattle.std.specs.FinMap as map
+use Rattle.std.proofs.lemmas.Map.Made.{filter_same_pairs}
+use Rattle.neph_tree.specs.Places.{is_within}
+use Rattle.neph_tree.specs.Nodes.{without}
+use Rattle.neph_tree.proofs.EntryLemmas.{retain-shown}
+use Rattle.neph_tree.proofs.node_map.NodeMap.cut.Goals as goal
+
+pub returns : goal.returns
+returns c =
+    retain-shown (λ path. not (is_within c.args.top.now path)) c.self.inside.entries.entries _
+    (filter_same_pairs _ (λ e. not (is_within c.args.top.now e.0.items)) _ (λ k v b w f t. search rules) _ _ c.retain.ensures.filtered)
+    ∙ ap (λ m. without m c.args.top.now) c.self.view_is

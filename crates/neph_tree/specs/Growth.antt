@@ -1,0 +1,58 @@
+-- What a growing tree has that it hadn't.
+use Rattle.std.specs.Prelude.{◌≡◌, ◌≤◌, [], ◌∷◌, ℕ, Bool, true, false, List, Option, Some, None, IsTrue, length, take, if◌then◌else◌}
+use Rattle.std.specs.FinMap.{get, contains_key, insert}
+use Rattle.neph_base.specs.Path.{is_path}
+use Rattle.neph_tree.specs.Places.{is_within, ancestors}
+use Rattle.neph_tree.specs.Nodes.{Nodes, without, with_missing, with_each_missing}
+
+-- the length of the first node that was made, once this one is there
+abbrev pub first_made : Nodes → List ℕ → Option ℕ → Option ℕ
+first_made nodes path (Some end) = Some end
+first_made nodes path None = if contains_key nodes path then None else Some (length path)
+
+-- the front of this length is a path that wasn't there, later fronts lie within it, and all that
+-- doesn't is as it was
+pub record GrowsWithin (old new : Nodes) (path : List ℕ) (end : ℕ) : Type 0 where
+  pub front : is_path (take end path) ≡ true
+  pub missing : contains_key old (take end path) ≡ false
+  pub later : (i : ℕ) → end ≤ i → is_within (take end path) (take i path) ≡ true
+  pub others : (q : List ℕ) → is_within (take end path) q ≡ false → get new q ≡ get old q
+
+-- nothing was made, or all that was lies within the first
+abbrev pub IsGrown : Nodes → Nodes → List ℕ → Option ℕ → ℕ → Type 0
+IsGrown old new path None most = new ≡ old
+IsGrown old new path (Some end) most = GrowsWithin old new path end × (end ≤ most)
+
+-- the node was there, or all that was made lies within the first
+abbrev pub IsMade : Nodes → Nodes → List ℕ → Option ℕ → Type 0
+IsMade old new path None = contains_key old path ≡ true
+IsMade old new path (Some end) = GrowsWithin old new path end × (end ≤ length path)
+
+-- without what lies within the front of this length
+abbrev pub without_front : Nodes → List ℕ → Option ℕ → Nodes
+without_front nodes path None = nodes
+without_front nodes path (Some end) = without nodes (take end path)
+
+-- with a node of empty value at the path and above it, where there is none
+abbrev pub with_path : Nodes → List ℕ → Nodes
+with_path nodes path = with_missing (with_each_missing nodes (ancestors path)) path
+
+-- the same at each of these paths
+abbrev pub with_paths : Nodes → List (List ℕ × List ℕ) → Nodes
+with_paths nodes [] = nodes
+with_paths nodes (e ∷ es) = with_paths (with_path nodes e.0) es
+
+-- with each of these values
+abbrev pub with_values : Nodes → List (List ℕ × List ℕ) → Nodes
+with_values nodes [] = nodes
+with_values nodes (e ∷ es) = with_values (insert nodes e.0 e.1) es
+
+-- they stand at paths
+abbrev pub ArePaths : List (List ℕ × List ℕ) → Type 0
+ArePaths [] = Unit {0}
+ArePaths (e ∷ es) = IsTrue (is_path e.0) × ArePaths es
+
+-- there is a node at each of these paths
+abbrev pub HasEach : Nodes → List (List ℕ × List ℕ) → Type 0
+HasEach nodes [] = Unit {0}
+HasEach nodes (e ∷ es) = IsTrue (contains_key nodes e.0) × HasEach nodes es

@@ -1,0 +1,5 @@
+pub mod Entries
+pub mod Growth
+pub mod Nodes
+pub mod Places
+pub mod Refusals

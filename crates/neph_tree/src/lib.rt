@@ -1,0 +1,16 @@
+//! The store's tree: a finite map from path to value, closed under parents.
+#![tactic(auto)]
+
+mod growth;
+mod limit;
+mod node_map;
+mod place;
+mod places;
+mod refusals;
+#[cfg(test)]
+mod tests;
+mod tree;
+
+pub use place::{PLACE_FRONT_BYTES, Place};
+pub use refusals::{DOMAIN_NODES, RemoveRefused, WriteRefused};
+pub use tree::{TREE_PATH_BYTES, Tree};

@@ -1,0 +1,163 @@
+// A finite map from byte strings, in their order.
+ghost use Rattle.std.specs.Prelude.{◌≡◌, [], true, IfOk, OnOk, OnErr, slice_get};
+ghost use Rattle.std.specs.Option.{option_copied, option_map};
+ghost use Rattle.std.specs.FinMap as map;
+ghost use Rattle.neph_tree.specs.Nodes.{subtree, child_names, without};
+
+use crate::places::{child_name, is_within};
+use neph_base::{Bytes, Name, Names, NoMemory};
+use std::alloc::Global;
+use std::collections::BTreeMap;
+use std::marker::Model;
+
+#[derive(Drop)]
+pub(crate) struct NodeMap {
+    alloc: Global,
+    entries: BTreeMap<Vec<u8>, Vec<u8>>,
+}
+
+impl Model for NodeMap {
+    ghost use Rattle.std.specs.Prelude.{ℕ, List, ◌^◌, ◌<◌};
+    ghost use Rattle.std.specs.Ordering.{nat_cmp};
+    ghost use Rattle.std.specs.BTreeMap.{btree_map_len};
+    ghost use Rattle.std.specs.Cmp.Lexicographic.{slice_cmp};
+    ghost use Rattle.std.specs.FinMap as map;
+    ghost use Rattle.std.specs.Coded.{coded_ℕ, coded_list};
+    ghost use Rattle.neph_tree.specs.Entries.{shown};
+
+    ghost Value = { map.FinMap (slice_cmp nat_cmp) (List ℕ) };
+
+    ghost coded = { map.code (coded_list coded_ℕ) (coded_list coded_ℕ) };
+
+    ghost view = { λ a. map.from_entries (shown a.entries.entries) };
+
+    ghost invariant = { λ a. btree_map_len a.entries < 2 ^ 32 };
+}
+
+impl NodeMap {
+    pub(crate) fn new(alloc: Global) -> Self
+        ensures { result ≡ map.empty }
+    {
+        NodeMap {
+            alloc,
+            entries: BTreeMap::new(alloc),
+        }
+    }
+
+    pub(crate) fn get(&self, path: &[u8]) -> Option<&[u8]>
+        ensures { option_copied result ≡ map.get self.now path.now }
+    {
+        match self.entries.get(path) {
+            Some(value) => Some(value),
+            None => None,
+        }
+    }
+
+    pub(crate) fn contains(&self, path: &[u8]) -> bool
+        ensures { result ≡ map.contains_key self.now path.now }
+    {
+        self.entries.contains_key(path)
+    }
+
+    pub(crate) fn len(&self) -> u32
+        ensures { result ≡ map.len self.now }
+    {
+        self.entries.len() as u32
+    }
+
+    // How many nodes are within `top`.
+    pub(crate) fn count_within(&self, top: &[u8]) -> u32
+        ensures { result ≡ map.len (subtree self.now top.now) }
+    {
+        let mut count = 0;
+        for (path, _) in self.entries.iter() {
+            if is_within(top, path) {
+                count += 1;
+            }
+        }
+        count
+    }
+
+    // The nodes within `top`.
+    pub(crate) fn subtree(&self, top: &[u8]) -> Result<Vec<(Bytes, Bytes)>, NoMemory>
+        ensures { IfOk result (λ nodes. nodes.items ≡ map.entries (subtree self.now top.now)) }
+    {
+        let mut nodes = Vec::new(self.alloc);
+        for (path, value) in self.entries.iter() {
+            if is_within(top, path) {
+                let path = Bytes::of(copy_of(self.alloc, path)?);
+                let value = Bytes::of(copy_of(self.alloc, value)?);
+                nodes.push((path, value))?;
+            }
+        }
+        Ok(nodes)
+    }
+
+    // The names of a directory's children.
+    pub(crate) fn child_names(&self, directory: &[u8]) -> Result<Names, NoMemory>
+        ensures { IfOk result (λ names. names ≡ child_names self.now directory.now) }
+    {
+        let mut names = Vec::new(self.alloc);
+        for path in self.entries.keys() {
+            if let Some(name) = child_name(directory, path) {
+                names.push(Name::of(copy_of(self.alloc, name)?))?;
+            }
+        }
+        Ok(Names::of(names))
+    }
+
+    // The node at a place in the order.
+    pub(crate) fn entry(&self, place: u32) -> Option<(&[u8], &[u8])>
+        ensures { option_map (λ p. (p.0.now, p.1.now)) result ≡ slice_get (map.entries self.now) place }
+    {
+        match self.entries.iter().nth(place as usize) {
+            Some((path, value)) => Some((path, value)),
+            None => None,
+        }
+    }
+
+    pub(crate) fn set(&mut self, path: &[u8], value: Vec<u8>) -> Result<(), NoMemory>
+        ensures ok { OnOk result (self.new ≡ map.insert self.old path.now value.items) }
+        ensures err { OnErr result (self.new ≡ self.old) }
+    {
+        if self.entries.len() >= u32::MAX as usize {
+            return Err(NoMemory);
+        }
+        let key = copy_of(self.alloc, path)?;
+        self.entries.insert(key, value)?;
+        Ok(())
+    }
+
+    // Gives a node that is there another value, for which it needs no memory.
+    pub(crate) fn replace(&mut self, path: Vec<u8>, value: Vec<u8>)
+        requires { map.contains_key self.old path.items ≡ true }
+        ensures { self.new ≡ map.insert self.old path.items value.items }
+    {
+        match self.entries.insert(path, value) {
+            Ok(_) => (),
+            Err(_) => unreachable!(),
+        }
+    }
+
+    pub(crate) fn set_empty(&mut self, path: &[u8]) -> Result<(), NoMemory>
+        ensures ok { OnOk result (self.new ≡ map.insert self.old path.now []) }
+        ensures err { OnErr result (self.new ≡ self.old) }
+    {
+        self.set(path, Vec::new(self.alloc))
+    }
+
+    pub(crate) fn cut(&mut self, top: &[u8])
+        ensures { self.new ≡ without self.old top.now }
+    {
+        self.entries.retain(|path, _| !is_within(top, path));
+    }
+}
+
+// The bytes, in memory of their own.
+pub(crate) fn copy_of(alloc: Global, bytes: &[u8]) -> Result<Vec<u8>, NoMemory>
+    ensures { IfOk result (λ copy. copy.items ≡ bytes.now) }
+{
+    let mut copy = Vec::with_capacity(alloc, bytes.len())?;
+    copy.extend_from_slice(bytes)?;
+    Ok(copy)
+}

@@ -1,0 +1,4 @@
+pub mod Adding
+pub mod Moving
+pub mod Paths
+pub mod StartPaths
