@@ -1,0 +1,4 @@
+pub mod FidLemmas
+pub mod EntryLemmas
+pub mod WalkLemmas
+pub mod ExampleLemmas
