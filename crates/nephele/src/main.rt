@@ -3,15 +3,23 @@
 
 use neph_io::{StdSink, StdSource};
 use neph_top::top;
+use std::io::ErrorKind;
 use std::process::ExitCode;
 use std::{env, io};
 
 fn main(rt: HostRuntime) -> ExitCode {
     let alloc = rt.alloc();
     let mut words = Vec::new(alloc);
-    if let Ok(all) = env::args(&rt) {
-        for word in all.skip(1) {
-            if words.push(word).is_err() {
+    match env::args(&rt) {
+        Ok(all) => {
+            for word in all.skip(1) {
+                if words.push(word).is_err() {
+                    return ExitCode::from(5);
+                }
+            }
+        }
+        Err(error) => {
+            if error.kind() == ErrorKind::OutOfMemory {
                 return ExitCode::from(5);
             }
         }
