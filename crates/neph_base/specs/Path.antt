@@ -16,7 +16,8 @@ is_between low high n = nat_le low n && nat_le n high
 
 -- a letter, a digit, `-`, `_` or `@`
 abbrev pub is_path_byte : ℕ → Bool
-is_path_byte b = is_between 97 122 b || is_between 65 90 b || is_between 48 57 b || b == 45 || b == 95 || b == 64
+is_path_byte b = is_between 97 122 b || is_between 65 90 b || is_between 48 57 b || b == 45
+    || b == 95 || b == 64
 
 -- one or more of these
 abbrev pub is_component : List ℕ → Bool

@@ -1,7 +1,8 @@
 // Want of memory.
 use std::alloc::{AllocError, AllocFailed};
 
-/// Want of memory. After this answer the object is as it was before the call, unless its page says otherwise.
+/// Want of memory. After this answer the object is as it was before the call, unless its page says
+/// otherwise.
 #[derive(Clone, Copy, Debug, PartialEq, Eq)]
 pub struct NoMemory;
 

@@ -4,7 +4,8 @@ ghost use Rattle.std.specs.Option.{SomeIff};
 
 use std::marker::Model;
 
-/// A domain's id, 0 to 63 (Xen's `domid_t`, cut to this machine). Domain 0 is Dom0, which is never live here.
+/// A domain's id, 0 to 63 (Xen's `domid_t`, cut to this machine). Domain 0 is Dom0, which is never
+/// live here.
 #[derive(Clone, Copy, Debug, PartialEq, Eq, PartialOrd, Ord)]
 pub struct DomId {
     number: u32,
@@ -173,7 +174,8 @@ impl VAddr {
     }
 }
 
-/// The number of a frame of the machine, 0 to 16383 (Xen's machine frame number). A frame has 4096 bytes.
+/// The number of a frame of the machine, 0 to 16383 (Xen's machine frame number). A frame has 4096
+/// bytes.
 #[derive(Clone, Copy, Debug, PartialEq, Eq, PartialOrd, Ord)]
 pub struct FrameNo {
     number: u32,
@@ -210,7 +212,8 @@ impl FrameNo {
     }
 }
 
-/// A grant reference, 0 to 63: the place of an entry in its domain's grant table (Xen's `grant_ref_t`).
+/// A grant reference, 0 to 63: the place of an entry in its domain's grant table (Xen's
+/// `grant_ref_t`).
 #[derive(Clone, Copy, Debug, PartialEq, Eq, PartialOrd, Ord)]
 pub struct GrantRef {
     number: u32,

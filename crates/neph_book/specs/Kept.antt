@@ -18,7 +18,8 @@ pub record IsTold (used : ℕ) (holders : List ℕ) : Type 0 where
   pub used_is : used ≡ count_by (λ n. nat_lt 0 n) holders
   pub short : length holders < 2 ^ 32
 
--- There is a book for each of the 64 ids, with at most 1024 pages; and of each colour it is told how many pages have it.
+-- There is a book for each of the 64 ids, with at most 1024 pages; and of each colour it is told
+-- how many pages have it.
 pub record IsKept (list : List Book) (holders : List ℕ) : Type 0 where
   pub places : length list ≡ 64
   pub sizes : All (λ (b : Book). length b.colours ≤ 1024) list

@@ -15,7 +15,8 @@ pub struct Heirloom {
     pub new: u16,
 }
 
-/// The colours of a child of a domain with this own half and these colours, where new ones begin with this number.
+/// The colours of a child of a domain with this own half and these colours, where new ones begin
+/// with this number.
 pub fn child_heirloom(
     alloc: Global,
     o: &Own,

@@ -108,11 +108,14 @@ impl Ledger {
         self.palette.narrow(n);
     }
 
-    /// A line of a domain was answered, its spare became this, and it is at this stage. The colour for a copy was made before.
+    /// A line of a domain was answered, its spare became this, and it is at this stage. The colour
+    /// for a copy was made before.
     pub fn settle(&mut self, id: DomId, spends: Spends, stage: Stage, reply: &Reply)
         requires there { IsThere spends (book_at id self.old) }
         requires wide { IsWide spends self.old.fresh }
-        ensures { (bs : Books) (o : Own) → self.old ≡ record bs { fresh = fresh_spent spends bs.fresh } → stage ≡ stage_after o reply.now → self.new ≡ books_after id o spends reply.now bs }
+        ensures { (bs : Books) (o : Own)
+            → self.old ≡ record bs { fresh = fresh_spent spends bs.fresh }
+            → stage ≡ stage_after o reply.now → self.new ≡ books_after id o spends reply.now bs }
     {
         let alloc = *self.list.allocator();
         let book = &mut self.list[id.get() as usize];
@@ -122,8 +125,10 @@ impl Ledger {
 
     /// The colours that a child of a domain with this own half will have.
     pub fn heirloom(&self, parent: DomId, o: &Own) -> Result<Heirloom, NoMemory>
-        ensures colours { IfOk result (λ h. h.colours.items ≡ child_colours o.now 0 (book_at parent self.now).colours self.now.fresh) }
-        ensures new { IfOk result (λ h. h.new ≡ new_count o.now 0 (book_at parent self.now).colours) }
+        ensures colours { IfOk result (λ h. h.colours.items
+            ≡ child_colours o.now 0 (book_at parent self.now).colours self.now.fresh) }
+        ensures new { IfOk result (λ h. h.new
+            ≡ new_count o.now 0 (book_at parent self.now).colours) }
         ensures given { IfOk result (λ h. All (λ c. c < self.now.fresh + h.new) h.colours.items) }
         ensures few { IfOk result (λ h. length h.colours.items ≤ 1024) }
     {
@@ -132,12 +137,16 @@ impl Ledger {
         child_heirloom(alloc, o, colours, self.palette.size())
     }
 
-    /// A clone is committed: the child's pages have these colours, of which the new ones were made before, and its parent goes on.
+    /// A clone is committed: the child's pages have these colours, of which the new ones were made
+    /// before, and its parent goes on.
     pub fn bear(&mut self, parent: DomId, child: DomId, heirloom: Heirloom)
         requires apart { child ≢ parent }
         requires few { length heirloom.colours.items ≤ 1024 }
         requires given { All (λ c. c < self.old.fresh) heirloom.colours.items }
-        ensures { (bs : Books) (o : Own) → self.old ≡ record bs { fresh = bs.fresh + new_count o 0 (book_at parent bs).colours } → heirloom.colours.items ≡ child_colours o 0 (book_at parent bs).colours bs.fresh → self.new ≡ books_committed parent o (Child child) bs }
+        ensures { (bs : Books) (o : Own)
+            → self.old ≡ record bs { fresh = bs.fresh + new_count o 0 (book_at parent bs).colours }
+            → heirloom.colours.items ≡ child_colours o 0 (book_at parent bs).colours bs.fresh
+            → self.new ≡ books_committed parent o (Child child) bs }
     {
         inherit(
             &mut self.palette,

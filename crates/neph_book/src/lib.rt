@@ -1,4 +1,5 @@
-//! What the turns keep of the domains beside their plain records, with the colours of pages counted.
+//! What the turns keep of the domains beside their plain records, with the colours of pages
+//! counted.
 #![tactic(auto)]
 
 mod inheritance;

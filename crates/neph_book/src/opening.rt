@@ -13,9 +13,13 @@ use std::alloc::Global;
 /// The books of starting domains, from the id 1 on, whose pages get fresh colours.
 pub fn open(alloc: Global, starts: &[Start], palette: &mut Palette) -> Result<Vec<Book>, NoMemory>
     requires few { length starts.now ≤ 63 }
-    ensures books { IfOk result (λ v. v.items ≡ no_book ∷ (start_books (length palette.old) starts.now ++ replicate (63 - length starts.now) no_book)) }
-    ensures fresh { IfOk result (λ v. length palette.new ≡ length palette.old + page_count starts.now) }
-    ensures counts { IfOk result (λ v. (c : ℕ) → slice_index palette.new c ≡ slice_index palette.old c + sum_by (pages_in c) v.items) }
+    ensures books { IfOk result (λ v. v.items
+        ≡ no_book ∷ (start_books (length palette.old) starts.now
+        ++ replicate (63 - length starts.now) no_book)) }
+    ensures fresh { IfOk result (λ v. length palette.new ≡ length palette.old
+        + page_count starts.now) }
+    ensures counts { IfOk result (λ v. (c : ℕ)
+        → slice_index palette.new c ≡ slice_index palette.old c + sum_by (pages_in c) v.items) }
 {
     let mut list = Vec::with_capacity(alloc, 64)?;
     list.push(empty(alloc))?;
@@ -32,7 +36,8 @@ pub fn open(alloc: Global, starts: &[Start], palette: &mut Palette) -> Result<Ve
 fn book(alloc: Global, pages: u16, palette: &mut Palette) -> Result<Book, NoMemory>
     ensures book { IfOk result (λ b. b ≡ book_of (range_with_len (length palette.old) pages)) }
     ensures fresh { IfOk result (λ b. length palette.new ≡ length palette.old + pages) }
-    ensures counts { IfOk result (λ b. (c : ℕ) → slice_index palette.new c ≡ slice_index palette.old c + pages_in c b) }
+    ensures counts { IfOk result (λ b. (c : ℕ)
+        → slice_index palette.new c ≡ slice_index palette.old c + pages_in c b) }
 {
     let mut colours = Vec::with_capacity(alloc, pages as usize)?;
     for _ in 0..pages {

@@ -56,7 +56,8 @@ impl Palette {
     pub fn fresh(&mut self) -> Result<u32, NoMemory>
         ensures colour { IfOk result (λ colour. colour ≡ length self.old) }
         ensures length { OnOk result (length self.new ≡ length self.old + 1) }
-        ensures counts { IfOk result (λ colour. (c : ℕ) → slice_index self.new c ≡ slice_index self.old c + one_at colour c) }
+        ensures counts { IfOk result (λ colour. (c : ℕ)
+            → slice_index self.new c ≡ slice_index self.old c + one_at colour c) }
         ensures err { OnErr result (self.new ≡ self.old) }
     {
         let Ok(colour) = u32::try_from(self.holders.len()) else {
@@ -115,7 +116,8 @@ impl Palette {
         requires given { colour < length self.old }
         requires room { slice_index self.old colour + 1 < 2 ^ 32 }
         ensures length { length self.new ≡ length self.old }
-        ensures counts { (c : ℕ) → slice_index self.new c ≡ slice_index self.old c + one_at colour c }
+        ensures counts { (c : ℕ) → slice_index self.new c ≡ slice_index self.old c
+            + one_at colour c }
     {
         let place = colour as usize;
         let held = self.holders[place];
@@ -129,7 +131,8 @@ impl Palette {
     pub fn leave(&mut self, colour: u32)
         requires { 0 < slice_index self.old colour }
         ensures length { length self.new ≡ length self.old }
-        ensures counts { (c : ℕ) → slice_index self.new c + one_at colour c ≡ slice_index self.old c }
+        ensures counts { (c : ℕ) → slice_index self.new c + one_at colour c
+            ≡ slice_index self.old c }
     {
         let place = colour as usize;
         let held = self.holders[place];
@@ -145,7 +148,8 @@ pub fn join_all(palette: &mut Palette, colours: &[u32])
     requires given { All (λ c. c < length palette.old) colours.now }
     requires room { (c : ℕ) → slice_index palette.old c + length colours.now < 2 ^ 32 }
     ensures length { length palette.new ≡ length palette.old }
-    ensures counts { (c : ℕ) → slice_index palette.new c ≡ slice_index palette.old c + times c colours.now }
+    ensures counts { (c : ℕ) → slice_index palette.new c ≡ slice_index palette.old c
+        + times c colours.now }
 {
     for colour in colours {
         palette.join(*colour);
@@ -156,7 +160,8 @@ pub fn join_all(palette: &mut Palette, colours: &[u32])
 pub fn leave_all(palette: &mut Palette, colours: &[u32])
     requires given { (c : ℕ) → times c colours.now ≤ slice_index palette.old c }
     ensures length { length palette.new ≡ length palette.old }
-    ensures counts { (c : ℕ) → slice_index palette.new c + times c colours.now ≡ slice_index palette.old c }
+    ensures counts { (c : ℕ) → slice_index palette.new c + times c colours.now
+        ≡ slice_index palette.old c }
 {
     for colour in colours {
         palette.leave(*colour);

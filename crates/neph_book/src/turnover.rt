@@ -11,15 +11,18 @@ use neph_base::{Pfn, Reply};
 use neph_model::{Book, Spends, Stage};
 use std::alloc::Global;
 
-/// The spare of a domain becomes this. A copy gets the colour that was made last, which no page has.
+/// The spare of a domain becomes this. A copy gets the colour that was made last, which no page
+/// has.
 pub fn spend(palette: &mut Palette, book: &mut Book, spends: Spends)
     requires there { IsThere spends book.old }
     requires wide { IsWide spends (length palette.old) }
     requires given { (c : ℕ) → pages_in c book.old ≤ slice_index palette.old c }
     requires room { (c : ℕ) → slice_index palette.old c < 2 ^ 31 }
-    ensures book { (fresh : ℕ) → length palette.old ≡ fresh_spent spends fresh → book.new ≡ book_spent spends fresh book.old }
+    ensures book { (fresh : ℕ) → length palette.old ≡ fresh_spent spends fresh
+        → book.new ≡ book_spent spends fresh book.old }
     ensures length { length palette.new ≡ length palette.old }
-    ensures counts { (c : ℕ) → slice_index palette.new c + pages_in c book.old ≡ slice_index palette.old c + pages_in c book.new }
+    ensures counts { (c : ℕ) → slice_index palette.new c + pages_in c book.old
+        ≡ slice_index palette.old c + pages_in c book.new }
     ensures size { length book.new.colours ≡ length book.old.colours }
 {
     match spends {
@@ -35,9 +38,11 @@ fn recolour(palette: &mut Palette, book: &mut Book, pfn: Pfn)
     requires wide { 0 < length palette.old }
     requires given { (c : ℕ) → pages_in c book.old ≤ slice_index palette.old c }
     requires room { (c : ℕ) → slice_index palette.old c < 2 ^ 31 }
-    ensures book { (fresh : ℕ) → length palette.old ≡ fresh + 1 → book.new ≡ book_spent (Spends.Copy pfn) fresh book.old }
+    ensures book { (fresh : ℕ) → length palette.old ≡ fresh + 1
+        → book.new ≡ book_spent (Spends.Copy pfn) fresh book.old }
     ensures length { length palette.new ≡ length palette.old }
-    ensures counts { (c : ℕ) → slice_index palette.new c + pages_in c book.old ≡ slice_index palette.old c + pages_in c book.new }
+    ensures counts { (c : ℕ) → slice_index palette.new c + pages_in c book.old
+        ≡ slice_index palette.old c + pages_in c book.new }
     ensures size { length book.new.colours ≡ length book.old.colours }
 {
     let page = pfn.get() as usize;
@@ -52,9 +57,11 @@ fn recolour(palette: &mut Palette, book: &mut Book, pfn: Pfn)
 /// A line was answered: a domain that ended has no book, and any other is at this stage.
 pub fn finish(alloc: Global, palette: &mut Palette, book: &mut Book, stage: Stage, reply: &Reply)
     requires { (c : ℕ) → pages_in c book.old ≤ slice_index palette.old c }
-    ensures book { (o : Own) → stage ≡ stage_after o reply.now → book.new ≡ book_after o reply.now book.old }
+    ensures book { (o : Own) → stage ≡ stage_after o reply.now
+        → book.new ≡ book_after o reply.now book.old }
     ensures length { length palette.new ≡ length palette.old }
-    ensures counts { (c : ℕ) → slice_index palette.new c + pages_in c book.old ≡ slice_index palette.old c + pages_in c book.new }
+    ensures counts { (c : ℕ) → slice_index palette.new c + pages_in c book.old
+        ≡ slice_index palette.old c + pages_in c book.new }
     ensures size { length book.new.colours ≤ length book.old.colours }
 {
     match reply {
@@ -74,7 +81,8 @@ pub fn inherit(palette: &mut Palette, book: &mut Book, colours: Vec<u32>)
     requires room { (c : ℕ) → slice_index palette.old c < 2 ^ 31 }
     ensures book { book.new ≡ book_of colours.items }
     ensures length { length palette.new ≡ length palette.old }
-    ensures counts { (c : ℕ) → slice_index palette.new c + pages_in c book.old ≡ slice_index palette.old c + pages_in c book.new }
+    ensures counts { (c : ℕ) → slice_index palette.new c + pages_in c book.old
+        ≡ slice_index palette.old c + pages_in c book.new }
 {
     leave_all(palette, book.colours.items());
     join_all(palette, &colours);

@@ -41,5 +41,6 @@ IsDueFor s m id line _ = ⊤
 
 -- where a clone was begun, its domain is live and shares as many pages as with this own half
 abbrev pub SharesAs : Machine → ℕ → Own → Reply → Type 0
-SharesAs m id o (Begun child) = (is_live id m.shared.lives ≡ true) × (shared_count (own_at id m.own) ≡ shared_count o)
+SharesAs m id o (Begun child) =
+    (is_live id m.shared.lives ≡ true) × (shared_count (own_at id m.own) ≡ shared_count o)
 SharesAs m id o _ = ⊤

@@ -4,4 +4,8 @@ use Rattle.neph_core.specs.Course.{Course}
 
 -- the course of a run that is kept in parts
 abbrev pub course : Parts → Course
-course p = record { script = p.plain.script; state = record { machine = p.plain.machine; books = p.ledger }; history = p.history.items }
+course p = record {
+  script = p.plain.script;
+  state = record { machine = p.plain.machine; books = p.ledger };
+  history = p.history.items;
+}

@@ -29,8 +29,10 @@ impl Parts {
         requires sound { IsSound (course self.old) }
         requires line { line ≡ (own_at id (course self.old).state.machine.own).line }
         requires there { IsThere spends (book_at id (course self.old).state.books) }
-        requires due { is_due (course self.old).script (course self.old).state.machine (Line id line) ≡ true }
-        ensures { DoesOrLacks (course self.old) (course self.new) (line_turn (course self.old).script (course self.old).state id told spends) result }
+        requires due { is_due (course self.old).script (course self.old).state.machine
+            (Line id line) ≡ true }
+        ensures { DoesOrLacks (course self.old) (course self.new)
+            (line_turn (course self.old).script (course self.old).state id told spends) result }
     {
         self.history.reserve(1)?;
         let new = new_colours(&spends);
@@ -50,9 +52,11 @@ impl Parts {
         Ok(true)
     }
 
-    // The stage of a live domain behind a line with this reply: where a clone was begun the page steps are left.
+    // The stage of a live domain behind a line with this reply: where a clone was begun the page
+    // steps are left.
     fn stage_behind(&self, id: DomId, reply: &Reply) -> Stage
-        ensures { (o : Own) → SharesAs (course self.now).state.machine id o reply.now → result ≡ stage_after o reply.now }
+        ensures { (o : Own) → SharesAs (course self.now).state.machine id o reply.now
+            → result ≡ stage_after o reply.now }
     {
         match (reply, self.plain.own(id)) {
             (Reply::Begun(_), Some(o)) => Stage::Forking(shared_count(o)),
@@ -64,8 +68,10 @@ impl Parts {
     pub fn commit(&mut self, id: DomId, line: u16) -> Result<bool, NoMemory>
         requires sound { IsSound (course self.old) }
         requires line { line ≡ (own_at id (course self.old).state.machine.own).line }
-        requires due { is_due (course self.old).script (course self.old).state.machine (Commit id line) ≡ true }
-        ensures { DoesOrLacks (course self.old) (course self.new) (commit_turn (course self.old).script (course self.old).state id) result }
+        requires due { is_due (course self.old).script (course self.old).state.machine
+            (Commit id line) ≡ true }
+        ensures { DoesOrLacks (course self.old) (course self.new)
+            (commit_turn (course self.old).script (course self.old).state id) result }
     {
         self.history.reserve(1)?;
         let Some(o) = self.plain.own(id) else {
@@ -93,7 +99,8 @@ impl Parts {
 
     /// A turn of the daemon: the second stage of the oldest committed clone, where one waits.
     pub fn daemon_turn(&mut self) -> Result<bool, NoMemory>
-        ensures { DoesOrLacks (course self.old) (course self.new) (turn (course self.old).script (course self.old).state Actor.Daemon) result }
+        ensures { DoesOrLacks (course self.old) (course self.new)
+            (turn (course self.old).script (course self.old).state Actor.Daemon) result }
     {
         let entry = Entry::Daemon;
         if !self.plain.is_due(&entry) {

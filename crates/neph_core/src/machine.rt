@@ -15,7 +15,8 @@ use neph_model::{FrameCounts, Script};
 use std::alloc::Global;
 use std::marker::Model;
 
-/// The machine of a run: the plain machine of a script, the books of its domains, and the entries that its turns have made.
+/// The machine of a run: the plain machine of a script, the books of its domains, and the entries
+/// that its turns have made.
 #[derive(Drop)]
 pub struct Machine {
     parts: Parts,
@@ -31,7 +32,8 @@ impl Model for Machine {
 
     ghost Value = { Course };
 
-    ghost coded = { Prim.hlevel (codes, own.the_row.coded, map.code {R = nat_cmp} coded_ℕ (coded_list coded_ℕ)) };
+    ghost coded = { let pages = map.code {R = nat_cmp} coded_ℕ (coded_list coded_ℕ) in
+        Prim.hlevel (codes, own.the_row.coded, pages) };
 
     ghost view = { λ a. course a.parts };
 
@@ -55,7 +57,8 @@ impl Machine {
         })
     }
 
-    /// A turn of an actor. Tells whether it did anything. Where memory runs out the machine is as before.
+    /// A turn of an actor. Tells whether it did anything. Where memory runs out the machine is as
+    /// before.
     pub fn turn(&mut self, a: Actor) -> Result<bool, NoMemory>
         ensures { DoesOrLacks self.old self.new (turn self.old.script self.old.state a) result }
     {

@@ -19,7 +19,8 @@ impl Parts {
     pub fn next_move(&self, id: DomId, o: &Own) -> Move
         requires live { live_own id (course self.now).state.machine ≡ Some o.now }
         requires mapped { IsMapped o.now }
-        requires coloured { length (book_at id (course self.now).state.books).colours ≡ length o.now.pages }
+        requires coloured { length (book_at id (course self.now).state.books).colours
+            ≡ length o.now.pages }
         ensures value { result ≡ next_move (course self.now).script (course self.now).state id }
         ensures there { CanMove result (book_at id (course self.now).state.books) }
     {
@@ -37,7 +38,9 @@ impl Parts {
     fn copying_move(&self, book: &Book, o: &Own, command: Command) -> Move
         requires mapped { IsMapped o.now }
         requires coloured { length book.now.colours ≡ length o.now.pages }
-        ensures value { result ≡ copying_move (free (course self.now).script (course self.now).state) (course self.now).state.books o.now book.now command }
+        ensures value { result ≡ copying_move
+            (free (course self.now).script (course self.now).state)
+            (course self.now).state.books o.now book.now command }
         ensures there { CanMove result book.now }
     {
         let Command::W { addr, .. } = command else {
@@ -53,7 +56,8 @@ impl Parts {
     fn ready_move(&self, book: &Book, o: &Own, command: Command) -> Move
         requires mapped { IsMapped o.now }
         requires coloured { length book.now.colours ≡ length o.now.pages }
-        ensures value { result ≡ ready_move (free (course self.now).script (course self.now).state) (course self.now).state.books o.now book.now command }
+        ensures value { result ≡ ready_move (free (course self.now).script (course self.now).state)
+            (course self.now).state.books o.now book.now command }
         ensures there { CanMove result book.now }
     {
         match command {
@@ -79,11 +83,13 @@ impl Parts {
         }
     }
 
-    // The page that a write at an address must copy: one of the domain's own that may be written there, of a colour that another page has too.
+    // The page that a write at an address must copy: one of the domain's own that may be written
+    // there, of a colour that another page has too.
     fn page_to_copy(&self, book: &Book, o: &Own, addr: VAddr) -> Option<Pfn>
         requires mapped { IsMapped o.now }
         requires coloured { length book.now.colours ≡ length o.now.pages }
-        ensures value { result ≡ page_to_copy (course self.now).state.books o.now book.now (mapping_at o.now addr) }
+        ensures value { result ≡ page_to_copy (course self.now).state.books o.now book.now
+            (mapping_at o.now addr) }
         ensures there { IfSome result (λ pfn. pfn < length book.now.colours) }
     {
         let to = o.vmap.get(addr.vpn().get())?;
@@ -104,7 +110,8 @@ impl Parts {
 
     // A line that needs a frame.
     fn with_frame(&self, book: &Book, spends: Spends) -> Move
-        ensures { result ≡ with_frame (free (course self.now).script (course self.now).state) book.now spends }
+        ensures { result ≡ with_frame (free (course self.now).script (course self.now).state)
+            book.now spends }
     {
         if book.spare {
             Move::Does {

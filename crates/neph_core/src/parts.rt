@@ -25,7 +25,8 @@ impl Parts {
     /// A turn of an actor. Tells whether it did anything.
     pub fn turn(&mut self, a: Actor) -> Result<bool, NoMemory>
         requires { IsSound (course self.old) }
-        ensures { DoesOrLacks (course self.old) (course self.new) (turn (course self.old).script (course self.old).state a) result }
+        ensures { DoesOrLacks (course self.old) (course self.new)
+            (turn (course self.old).script (course self.old).state a) result }
     {
         match a {
             Actor::Dom(id) => self.domain_turn(id),
@@ -37,7 +38,8 @@ impl Parts {
     // A turn of a domain, which does nothing where it isn't live.
     fn domain_turn(&mut self, id: DomId) -> Result<bool, NoMemory>
         requires { IsSound (course self.old) }
-        ensures { DoesOrLacks (course self.old) (course self.new) (turn (course self.old).script (course self.old).state (Dom id)) result }
+        ensures { DoesOrLacks (course self.old) (course self.new)
+            (turn (course self.old).script (course self.old).state (Dom id)) result }
     {
         let Some(o) = self.plain.own(id) else {
             return Ok(false);
@@ -52,8 +54,10 @@ impl Parts {
         requires sound { IsSound (course self.old) }
         requires line { line ≡ (own_at id (course self.old).state.machine.own).line }
         requires there { CanMove next (book_at id (course self.old).state.books) }
-        requires due { IsDueFor (course self.old).script (course self.old).state.machine id line next }
-        ensures { DoesOrLacks (course self.old) (course self.new) (move_turn (course self.old).script (course self.old).state id next) result }
+        requires due { IsDueFor (course self.old).script (course self.old).state.machine id line
+            next }
+        ensures { DoesOrLacks (course self.old) (course self.new)
+            (move_turn (course self.old).script (course self.old).state id next) result }
     {
         match next {
             Move::Rests => return Ok(false),

@@ -19,7 +19,8 @@ pub struct Played {
     pub stalled: bool,
 }
 
-/// Runs a script by turns: those that it gives, and then rounds, until no domain is live or a round does nothing.
+/// Runs a script by turns: those that it gives, and then rounds, until no domain is live or a round
+/// does nothing.
 pub fn play(alloc: Global, s: &Script) -> Result<Played, NoMemory>
     requires { IsWellFormed s.now }
     ensures { IfOk result (λ p. Plays s.now p.machine p.stalled) }
@@ -43,7 +44,8 @@ pub fn play(alloc: Global, s: &Script) -> Result<Played, NoMemory>
 
 // The turns of these actors in order, until no domain is live. Tells whether one did anything.
 fn take_turns(machine: &mut Machine, actors: &[Actor]) -> Result<bool, NoMemory>
-    ensures { IfOk result (Does machine.old machine.new (turns machine.old.script machine.old.state actors.now)) }
+    ensures { IfOk result (Does machine.old machine.new
+        (turns machine.old.script machine.old.state actors.now)) }
 {
     let mut moved = false;
     for actor in actors {

@@ -26,6 +26,8 @@ StepDone s old new e told (Err lacks) = TakesMemory s old e × (new ≡ old)
 
 -- an entry on a machine in place was answered so: done, not due, or due while memory ran out
 abbrev pub StepAnswers : Script → Machine → Machine → Entry → Told → Result Reply FlatEnd → Type 0
-StepAnswers s old new e told (Ok reply) = entry_step s old e told ≡ Some (record { machine = new; reply = reply })
+StepAnswers s old new e told (Ok reply) =
+    entry_step s old e told ≡ Some (record { machine = new; reply = reply })
 StepAnswers s old new e told (Err end.NotNext) = (entry_step s old e told ≡ None) × (new ≡ old)
-StepAnswers s old new e told (Err end.NoMemory) = (is_due s old e ≡ true) × (TakesMemory s old e × (new ≡ old))
+StepAnswers s old new e told (Err end.NoMemory) =
+    (is_due s old e ≡ true) × (TakesMemory s old e × (new ≡ old))

@@ -13,7 +13,8 @@ use Rattle.neph_model.specs.WellFormed.{IsWellFormed}
 abbrev pub IsMapped : Own → Type 0
 IsMapped o = (v : ℕ) → IfSome (map.get o.vmap v) (λ (to : Mapping). to.pfn < length o.pages)
 
--- the own half of a live domain: its pages are there, and its line and its tables are within their bounds
+-- the own half of a live domain: its pages are there, and its line and its tables are within their
+-- bounds
 pub record IsSoundOwn (o : Own) : Type 0 where
   pub pages_low : 8 ≤ length o.pages
   pub pages_high : length o.pages ≤ 1024
@@ -22,7 +23,8 @@ pub record IsSoundOwn (o : Own) : Type 0 where
   pub line : o.line ≤ 512
   pub leaves : length o.leaves ≤ 2 + o.line
 
--- a live domain with this own half, of which that is kept: each commit of a clone that it has begun leaves it within its program
+-- a live domain with this own half, of which that is kept: each commit of a clone that it has begun
+-- leaves it within its program
 pub record IsSoundDomain (o : Own) (g : Guest) : Type 0 where
   pub own : IsSoundOwn o
   pub commits : o.line + length g.begun ≤ 512
@@ -33,4 +35,5 @@ pub record IsSound (s : Script) (m : Machine) : Type 0 where
   pub places : length m.own ≡ 64
   pub exposed : length m.shared.pages ≡ 64
   pub apart : IsApart m
-  pub each : (id : ℕ) → is_live id m.shared.lives ≡ true → IsSoundDomain (own_at id m.own) (guest_at id m.shared.tables)
+  pub each : (id : ℕ) → is_live id m.shared.lives ≡ true
+      → IsSoundDomain (own_at id m.own) (guest_at id m.shared.tables)

@@ -41,7 +41,9 @@ pub fn none_alone(alloc: Global, alone: &[bool]) -> Result<List<bool>, NoMemory>
 fn child_pages(alloc: Global, child: DomId, dom: DomId, of: &Pages) -> Result<Pages, NoMemory>
     requires some { 0 < length of.now }
     requires few { length of.now ≤ 1024 }
-    ensures { IfOk result (λ pages. pages ≡ slice_set of.now 0 (option_map (λ page. page_with_identity page child dom (length of.now)) (slice_index_or of.now 0 None))) }
+    ensures { IfOk result (λ pages. pages
+        ≡ slice_set of.now 0 (option_map (λ page. page_with_identity page child dom (length of.now))
+        (slice_index_or of.now 0 None))) }
 {
     let items = of.items();
     let identity = identity_page(&items[0], child, dom, items.len() as u32)?;
@@ -78,7 +80,8 @@ fn identity_page(
     parent: DomId,
     count: u32,
 ) -> Result<Option<Page>, NoMemory>
-    ensures { IfOk result (λ new. new ≡ option_map (λ page. page_with_identity page id parent count) page.now) }
+    ensures { IfOk result (λ new. new
+        ≡ option_map (λ page. page_with_identity page id parent count) page.now) }
 {
     let Some(page) = page else {
         return Ok(None);

@@ -39,7 +39,8 @@ pub fn aside(h: &Halves, s: &Script) -> u32
 fn live_tables(h: &Halves, s: &Script, id: usize) -> u32
     requires sound { IsSound s.now (seen h.now) }
     requires low { id < 64 }
-    ensures value { result ≡ (if is_live id h.now.registry.lives then table_frames (seen h.now) id else 0) }
+    ensures value { result ≡ (if is_live id h.now.registry.lives then table_frames (seen h.now) id
+        else 0) }
     ensures few { result ≤ 600 }
 {
     let dom = DomId::new(id as u32).unwrap();
@@ -53,7 +54,8 @@ fn live_tables(h: &Halves, s: &Script, id: usize) -> u32
 fn live_aside(h: &Halves, s: &Script, id: usize) -> u32
     requires sound { IsSound s.now (seen h.now) }
     requires low { id < 64 }
-    ensures value { result ≡ (if is_live id h.now.registry.lives then aside_for (seen h.now) id else 0) }
+    ensures value { result ≡ (if is_live id h.now.registry.lives then aside_for (seen h.now) id
+        else 0) }
     ensures few { result ≤ 100000 }
 {
     let dom = DomId::new(id as u32).unwrap();

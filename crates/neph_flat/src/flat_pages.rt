@@ -50,6 +50,10 @@ impl ExposedPages for FlatPages {
 
     ghost pages = { λ a. a };
 
+    ghost may_bear = { λ a child parent. ⊤ };
+
+    ghost keeps = { λ a b. ⊤ };
+
     fn has(&self, id: DomId, pfn: Pfn) -> bool {
         self.maps[id.get() as usize].get(pfn.get()).is_some()
     }
@@ -76,6 +80,8 @@ impl ExposedPages for FlatPages {
     fn end(&mut self, id: DomId) {
         self.maps[id.get() as usize] = PageMap::new(self.alloc);
     }
+
+    ghost keeps_itself = { λ a fits. tt };
 }
 
 ghost use Rattle.std.specs.Prelude.{◌≡◌, IfOk, OnOk, OnErr, ℕ, List};
@@ -83,7 +89,8 @@ ghost use Rattle.std.specs.FinMap as map;
 ghost use Rattle.neph_model.specs.Births.{child_exposed, with_changed};
 ghost use Rattle.neph_model.specs.Memory.{zero_page, child_network_page};
 
-// The exposed pages of a child: its parent's, but the console page and the 9P page are zero, and the network page sends nothing.
+// The exposed pages of a child: its parent's, but the console page and the 9P page are zero, and
+// the network page sends nothing.
 fn child_pages(alloc: Global, parent: &PageMap) -> Result<PageMap, NoMemory>
     ensures pages { IfOk result (λ born. born ≡ child_exposed parent.now) }
     ensures len { IfOk result (λ born. map.len born ≡ map.len parent.now) }

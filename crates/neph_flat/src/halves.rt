@@ -154,7 +154,8 @@ impl Halves {
     ) -> Result<Reply, NoMemory>
         requires kept { IsSound script.now (seen self.old) }
         requires due { is_due script.now (seen self.old) (entry.Line dom line) ≡ true }
-        ensures { StepDone script.now (seen self.old) (seen self.new) (entry.Line dom line) told result }
+        ensures { StepDone script.now (seen self.old) (seen self.new)
+            (entry.Line dom line) told result }
     {
         let program = self.registry.program(dom);
         let command = command_at(script, program, line);
@@ -168,12 +169,16 @@ impl Halves {
     // Does a command of a domain under the lock.
     fn call(&mut self, dom: DomId, told: Told, command: &Command) -> Reply
         requires places { length self.old.own.items ≡ 64 }
-        requires asked { MayBeAsked self.old.pages dom (lent (own_at dom self.old.own.items) command.now).met command.now }
+        requires asked { MayBeAsked self.old.pages dom
+            (lent (own_at dom self.old.own.items) command.now).met command.now }
         requires fits { FitsPage command.now }
         requires sound { IsSoundOwn (own_at dom self.old.own.items) }
-        ensures row { shared_line (seen self.old).shared dom (lent (own_at dom self.old.own.items) command.now) told command.now
+        ensures row { shared_line (seen self.old).shared dom
+            (lent (own_at dom self.old.own.items) command.now) told command.now
             ≡ locked (seen self.new).shared result }
-        ensures own { self.new.own.items ≡ slice_set self.old.own.items dom (own_behind (own_at dom self.old.own.items) command.now result None) }
+        ensures own { self.new.own.items
+            ≡ slice_set self.old.own.items dom
+            (own_behind (own_at dom self.old.own.items) command.now result None) }
     {
         let id = dom.get() as usize;
         let lent = lent(&self.own[id], command);
@@ -199,7 +204,8 @@ impl Halves {
     ) -> Result<Reply, NoMemory>
         requires kept { IsSound script.now (seen self.old) }
         requires due { is_due script.now (seen self.old) (entry.Commit dom line) ≡ true }
-        ensures { StepDone script.now (seen self.old) (seen self.new) (entry.Commit dom line) told result }
+        ensures { StepDone script.now (seen self.old) (seen self.new)
+            (entry.Commit dom line) told result }
     {
         let Some(child) = self.registry.first_begun(dom) else {
             unreachable!();
@@ -213,8 +219,12 @@ impl Halves {
         requires live { is_live dom self.old.registry.lives ≡ true }
         requires after { dom < child }
         requires sound { IsSoundOwn (own_at dom self.old.own.items) }
-        ensures row { IfOk result (λ reply. shared_commit (seen self.old).shared dom (guest_at dom self.old.registry.tables).begun ≡ locked (seen self.new).shared reply) }
-        ensures own { IfOk result (λ reply. self.new.own.items ≡ slice_set (slice_set self.old.own.items child (child_own child dom (own_at dom self.old.own.items))) dom (parent_own (own_at dom self.old.own.items))) }
+        ensures row { IfOk result (λ reply. shared_commit (seen self.old).shared dom
+            (guest_at dom self.old.registry.tables).begun ≡ locked (seen self.new).shared reply) }
+        ensures own { IfOk result (λ reply. self.new.own.items
+            ≡ slice_set (slice_set self.old.own.items child
+            (child_own child dom (own_at dom self.old.own.items))) dom
+            (parent_own (own_at dom self.old.own.items))) }
         ensures err { OnErr result (seen self.new ≡ seen self.old) }
     {
         let id = dom.get() as usize;

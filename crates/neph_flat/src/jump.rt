@@ -6,7 +6,8 @@ ghost use Rattle.neph_model.specs.Own.{jump_step};
 use neph_base::{Command, Reply};
 use neph_model::{Own, Script};
 
-/// The command at a line of the program with this number. Behind the last there is an exit that isn't written.
+/// The command at a line of the program with this number. Behind the last there is an exit that
+/// isn't written.
 pub fn command_at(script: &Script, program: u8, line: u16) -> Command
     ensures { result ≡ command_at script.now program line }
 {

@@ -14,7 +14,8 @@ use crate::memory::{Row, map, read, unmap, write};
 use neph_base::{Command, NoMemory, Reply};
 use neph_model::{Own, Script, Told};
 
-/// Does a command of a domain that runs the program with this number by itself. Nothing is answered where the hypervisor has to be asked.
+/// Does a command of a domain that runs the program with this number by itself. Nothing is answered
+/// where the hypervisor has to be asked.
 pub fn local(
     script: &Script,
     program: u8,
@@ -26,7 +27,8 @@ pub fn local(
     requires mapped { IsMapped o.old }
     requires alone { length o.old.alone ≡ length o.old.pages }
     requires room { o.old.line < 65535 }
-    ensures { LocalDone command.now o.old o.new result (local_step script.now program o.old told command.now) }
+    ensures { LocalDone command.now o.old o.new result
+        (local_step script.now program o.old told command.now) }
 {
     match command {
         Command::W { addr, bytes } => {
@@ -66,7 +68,9 @@ pub fn local(
 // Goes on to the next line, and marks whether the command was refused.
 fn settle(o: &mut Own, row: Row) -> Option<Reply>
     requires { o.old.line < 65535 }
-    ensures { (first : Own) (step : LocalResult) → first.line ≡ o.old.line → RowDone first o.old row step → Settled o.old o.new result (option_map (settle first) step) }
+    ensures { (first : Own) (step : LocalResult) → first.line ≡ o.old.line
+        → RowDone first o.old row step
+        → Settled o.old o.new result (option_map (settle first) step) }
 {
     let did = row?;
     o.line += 1;

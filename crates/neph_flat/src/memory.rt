@@ -17,7 +17,8 @@ pub fn write(o: &mut Own, told: Told, addr: VAddr, bytes: &Piece) -> Row
     requires mapped { IsMapped o.old }
     requires alone { length o.old.alone ≡ length o.old.pages }
     ensures line { o.new.line ≡ o.old.line }
-    ensures did { RowDone o.old o.new result (w_step o.old told (addr % 4096) bytes.now (mapping_at o.old addr)) }
+    ensures did { RowDone o.old o.new result
+        (w_step o.old told (addr % 4096) bytes.now (mapping_at o.old addr)) }
 {
     let Some(to) = o.vmap.get(addr.vpn().get()) else {
         return Some(Err(Refusal::Unmapped));

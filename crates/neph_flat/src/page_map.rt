@@ -69,7 +69,8 @@ impl PageMap {
         requires there { is_some (map.get self.old pfn) ≡ true }
         requires inside { at + length bytes.now ≤ 4096 }
         ensures len { map.len self.new ≡ map.len self.old }
-        ensures page { self.new ≡ map.insert self.old pfn (page_with_bytes (unwrap_or (map.get self.old pfn) []) at bytes.now) }
+        ensures page { self.new ≡ map.insert self.old pfn
+            (page_with_bytes (unwrap_or (map.get self.old pfn) []) at bytes.now) }
     {
         let Some(page) = self.pages.get_mut(&pfn) else {
             unreachable!();

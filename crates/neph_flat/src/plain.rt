@@ -20,7 +20,8 @@ use neph_model::{Own, Script, Told};
 use std::alloc::Global;
 use std::marker::Model;
 
-/// The plain machine of a script: its domains have flat memories of their own, without frames, tables or counts.
+/// The plain machine of a script: its domains have flat memories of their own, without frames,
+/// tables or counts.
 #[derive(Drop)]
 pub struct Plain {
     script: Script,
@@ -38,7 +39,8 @@ impl Model for Plain {
 
     ghost Value = { Flat };
 
-    ghost coded = { Prim.hlevel (codes, own.the_row.coded, map.code {R = nat_cmp} coded_ℕ (coded_list coded_ℕ)) };
+    ghost coded = { let pages = map.code {R = nat_cmp} coded_ℕ (coded_list coded_ℕ) in
+        Prim.hlevel (codes, own.the_row.coded, pages) };
 
     ghost view = { λ a. record { script = a.script; machine = seen a.halves } };
 
@@ -57,9 +59,11 @@ impl Plain {
         })
     }
 
-    /// Does an entry, told this of the free frames, where it is due: `NotNext` exactly where it isn't. An `Err` changes nothing, and only a `map` and a commit take memory.
+    /// Does an entry, told this of the free frames, where it is due: `NotNext` exactly where it
+    /// isn't. An `Err` changes nothing, and only a `map` and a commit take memory.
     pub fn step(&mut self, e: &Entry, told: Told) -> Result<Reply, FlatEnd>
-        ensures did { StepAnswers self.old.script self.old.machine self.new.machine e.now told result }
+        ensures did { StepAnswers self.old.script self.old.machine self.new.machine e.now told
+            result }
         ensures script { self.new.script ≡ self.old.script }
     {
         self.halves.entry(&self.script, e, told)
@@ -104,7 +108,8 @@ impl Plain {
         self.halves.command(&self.script, id)
     }
 
-    /// Whether a domain is paused: from the begin of a clone to its second stage, and as a child from its commit on.
+    /// Whether a domain is paused: from the begin of a clone to its second stage, and as a child
+    /// from its commit on.
     pub fn is_paused(&self, id: DomId) -> bool
         ensures { result ≡ is_paused id self.now.machine.shared }
     {
@@ -120,7 +125,8 @@ impl Plain {
 
     /// How many frames the tables of the live domains stand on.
     pub fn tables(&self) -> u32
-        ensures value { result ≡ sum_live (table_frames self.now.machine) self.now.machine.shared.lives }
+        ensures value { result ≡ sum_live
+            (table_frames self.now.machine) self.now.machine.shared.lives }
         ensures few { result ≤ 65536 }
     {
         tables(&self.halves, &self.script)
@@ -128,7 +134,8 @@ impl Plain {
 
     /// How many frames the clones in flight have put aside.
     pub fn aside(&self) -> u32
-        ensures value { result ≡ sum_live (aside_for self.now.machine) self.now.machine.shared.lives }
+        ensures value { result ≡ sum_live
+            (aside_for self.now.machine) self.now.machine.shared.lives }
         ensures few { result ≤ 2 ^ 24 }
     {
         aside(&self.halves, &self.script)

@@ -6,7 +6,8 @@ pub fn local_alone()
     ensures { LocalAlone }
 {}
 
-/// A local entry may change places with any neighbouring entry of another actor but the commit that makes its domain.
+/// A local entry may change places with any neighbouring entry of another actor but the commit that
+/// makes its domain.
 pub fn local_moves()
     ensures { LocalMoves }
 {}
@@ -26,7 +27,8 @@ pub fn tracks_by_cut()
     ensures { TracksByCut }
 {}
 
-/// A call moves its domain's line by one, or leaves it where a clone begins, and keeps its number of pages.
+/// A call moves its domain's line by one, or leaves it where a clone begins, and keeps its number
+/// of pages.
 pub fn moves_on()
     ensures { MovesOn }
 {}

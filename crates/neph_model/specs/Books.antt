@@ -1,4 +1,5 @@
--- What the turns keep beside the plain machine: how far each domain is with its line, its spare frame, and the colours of its pages. Pages that a clone lets share one frame have one colour.
+-- What the turns keep beside the plain machine: how far each domain is with its line, its spare
+-- frame, and the colours of its pages. Pages that a clone lets share one frame have one colour.
 use Rattle.std.specs.Prelude.{ℕ, suc, Bool, false, ◌==◌, ◌+◌, ◌-◌, ◌*◌, ◌&&◌, not, nat_lt, List, [], ◌∷◌, ◌++◌, length, replicate, count_by, sum_by, is_some, slice_index_or, slice_set, if◌then◌else◌}
 use Rattle.std.specs.List.{range_with_len}
 use Rattle.neph_model.specs.declared.script.Script.{Script}
@@ -42,7 +43,8 @@ put_book id b bs = record bs { list = slice_set bs.list id b }
 -- The books of some domain lines. Each page has a colour of its own, from this number on.
 abbrev pub start_books : ℕ → List Start → List Book
 start_books colour [] = []
-start_books colour (t ∷ ts) = book_of (range_with_len colour t.pages) ∷ start_books (colour + t.pages) ts
+start_books colour (t ∷ ts) = book_of (range_with_len colour t.pages)
+    ∷ start_books (colour + t.pages) ts
 
 -- how many pages some domain lines have
 abbrev pub page_count : List Start → ℕ
@@ -50,7 +52,11 @@ page_count starts = sum_by (λ (t : Start). t.pages) starts
 
 -- the books of the starting domains of these lines
 abbrev pub opening_books : List Start → Books
-opening_books starts = record { list = no_book ∷ (start_books 0 starts ++ replicate (63 - length starts) no_book); fresh = page_count starts }
+opening_books starts = record {
+  list = no_book
+      ∷ (start_books 0 starts ++ replicate (63 - length starts) no_book);
+  fresh = page_count starts;
+}
 
 -- the machine and the books at the start of a script
 abbrev pub start_state : Script → State
@@ -91,17 +97,27 @@ aside_for m id = length (guest_at id m.shared.tables).begun * need_of m id
 -- the frames that some use leaves
 abbrev pub counts_of : ℕ → ℕ → ℕ → ℕ → ℕ → Counts
 counts_of total colours tables spares aside =
-    record { total = total; colours = colours; tables = tables; spares = spares; aside = aside; free = total - (colours + tables + spares + aside) }
+    record {
+      total = total;
+      colours = colours;
+      tables = tables;
+      spares = spares;
+      aside = aside;
+      free = total - (colours + tables + spares + aside);
+    }
 
 -- what the frames of the machine are used for
 abbrev pub counts : Script → State → Counts
-counts s st = counts_of s.frames (colours_used st.books) (sum_live (table_frames st.machine) st.machine.shared.lives) (spares_held st.books) (sum_live (aside_for st.machine) st.machine.shared.lives)
+counts s st = counts_of s.frames (colours_used st.books)
+    (sum_live (table_frames st.machine) st.machine.shared.lives) (spares_held st.books)
+    (sum_live (aside_for st.machine) st.machine.shared.lives)
 
 -- the frames that are free
 abbrev pub free : Script → State → ℕ
 free s st = (counts s st).free
 
--- the book of a domain after its spare became this: a copy of a page gets a colour that no page has had
+-- the book of a domain after its spare became this: a copy of a page gets a colour that no page has
+-- had
 abbrev pub book_spent : Spends → ℕ → Book → Book
 book_spent Nothing fresh b = b
 book_spent Leaf fresh b = record b { spare = false }
@@ -121,17 +137,22 @@ goes_shared o pfn = not (pfn == 0) && is_some (page_of o pfn)
 abbrev pub shared_count : Own → ℕ
 shared_count o = count_by (goes_shared o) (range_with_len 0 (length o.pages))
 
--- The colours of a child's pages from this page on: the parent's where a page is shared, and new ones from this number on where it isn't.
+-- The colours of a child's pages from this page on: the parent's where a page is shared, and new
+-- ones from this number on where it isn't.
 abbrev pub child_colours : Own → ℕ → List ℕ → ℕ → List ℕ
 child_colours o pfn [] fresh = []
-child_colours o pfn (c ∷ cs) fresh = if goes_shared o pfn then c ∷ child_colours o (suc pfn) cs fresh else fresh ∷ child_colours o (suc pfn) cs (fresh + 1)
+child_colours o pfn (c ∷ cs) fresh =
+    if goes_shared o pfn then c ∷ child_colours o (suc pfn) cs fresh
+    else fresh ∷ child_colours o (suc pfn) cs (fresh + 1)
 
 -- how many new ones there are among them
 abbrev pub new_count : Own → ℕ → List ℕ → ℕ
 new_count o pfn [] = 0
-new_count o pfn (c ∷ cs) = if goes_shared o pfn then new_count o (suc pfn) cs else 1 + new_count o (suc pfn) cs
+new_count o pfn (c ∷ cs) = if goes_shared o pfn then new_count o (suc pfn) cs
+    else 1 + new_count o (suc pfn) cs
 
 -- the books after a commit of this child by a domain with this own half and book
 abbrev pub books_born : ℕ → Own → Book → Books → Books
 books_born child o parent bs =
-    record (put_book child (book_of (child_colours o 0 parent.colours bs.fresh)) bs) { fresh = bs.fresh + new_count o 0 parent.colours }
+    record (put_book child (book_of (child_colours o 0 parent.colours bs.fresh)) bs)
+    { fresh = bs.fresh + new_count o 0 parent.colours }

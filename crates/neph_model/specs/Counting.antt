@@ -21,9 +21,11 @@ abbrev pub is_map : Command → Bool
 is_map (command.Map vpn pfn mode) = true
 is_map _ = false
 
--- The most frames that a domain of this line may stand on: its pages, a root table, a spare, and a leaf table for each started 512 pages and for each `map` of its program.
+-- The most frames that a domain of this line may stand on: its pages, a root table, a spare, and a
+-- leaf table for each started 512 pages and for each `map` of its program.
 abbrev pub start_cap : Script → Start → ℕ
-start_cap s t = t.pages + 2 + started_512s t.pages + count_by is_map (commands_of (program_at s t.program))
+start_cap s t = t.pages + 2 + started_512s t.pages
+    + count_by is_map (commands_of (program_at s t.program))
 
 -- the greater of two numbers
 abbrev pub greater : ℕ → ℕ → ℕ
@@ -57,7 +59,8 @@ exposed_in_flight sh = sum_live (λ id. in_flight sh id * exposed_pages sh id) s
 -- so many free frames are possible here
 pub record IsPossible (s : Script) (sh : Shared) (free : ℕ) : Type 0 where
   pub least : exposed_count sh ≤ s.frames - free
-  pub most : s.frames - free ≤ cap s s.starts * holders sh + (exposed_count sh + exposed_in_flight sh)
+  pub most : s.frames - free ≤ cap s s.starts * holders sh
+      + (exposed_count sh + exposed_in_flight sh)
 
 -- the free frames that a reply to a command counts
 abbrev pub frames_counted : Command → Reply → Option ℕ
@@ -78,9 +81,11 @@ CountsWell s sh c reply = IfSome (frames_counted c reply) (IsPossible s sh)
 
 -- a page isn't known to be the domain's alone
 abbrev pub may_be_shared : Own → Option Mapping → Bool
-may_be_shared o met = option_map_or (λ (x : Mapping). not (slice_index_or o.alone x.pfn false)) met false
+may_be_shared o met = option_map_or (λ (x : Mapping). not (slice_index_or o.alone x.pfn false)) met
+    false
 
--- No frame may lack for a command: a page that may be shared is to be written, or a leaf table is missing.
+-- No frame may lack for a command: a page that may be shared is to be written, or a leaf table is
+-- missing.
 abbrev pub may_lack : Own → Command → Bool
 may_lack o (command.W addr bytes) = may_be_shared o (mapping_at o addr)
 may_lack o (command.Map vpn pfn mode) = not (has_leaf o vpn)

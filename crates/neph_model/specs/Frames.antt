@@ -2,7 +2,8 @@
 use Rattle.std.specs.Prelude.{ℕ, ◌+◌, ◌≡◌}
 use Rattle.neph_model.specs.declared.frames.FrameCounts.{FrameCounts}
 
--- How many frames the machine has, how many of them pages, tables and spares stand on and clones in flight have put aside, and how many are free.
+-- How many frames the machine has, how many of them pages, tables and spares stand on and clones in
+-- flight have put aside, and how many are free.
 abbrev pub Counts : Type 0
 Counts = FrameCounts
 

@@ -9,7 +9,8 @@ use Rattle.neph_model.specs.declared.memory.Mapping.{Mapping}
 use Rattle.neph_model.specs.Machine.{Own, no_own}
 use Rattle.neph_model.specs.Own.{with_page, with_alone, mapping_at}
 
--- What the own half lends to an entry under the lock: what its address maps to, how many leaf tables it has, and to a commit itself.
+-- What the own half lends to an entry under the lock: what its address maps to, how many leaf
+-- tables it has, and to a commit itself.
 pub record Lent : Type 0 where
   pub met : Option Mapping
   pub leaves : ℕ
@@ -39,12 +40,15 @@ abbrev pub with_page_back : Own → Option PageBack → Own
 with_page_back o None = o
 with_page_back o (Some p) = with_page o p.pfn (Some p.bytes)
 
--- the own half behind a command that the hypervisor accepted: a page that it wrote, exposed as it is, is no longer shared
+-- the own half behind a command that the hypervisor accepted: a page that it wrote, exposed as it
+-- is, is no longer shared
 abbrev pub own_given : Own → Command → Reply → Own
-own_given o (command.W addr bytes) Done = option_map_or (λ (x : Mapping). with_alone o x.pfn) (mapping_at o addr) o
+own_given o (command.W addr bytes) Done =
+    option_map_or (λ (x : Mapping). with_alone o x.pfn) (mapping_at o addr) o
 own_given o _ _ = o
 
--- Line and mark behind a reply of the hypervisor. A clone that begins stays at its line until its commit.
+-- Line and mark behind a reply of the hypervisor. A clone that begins stays at its line until its
+-- commit.
 abbrev pub own_replied : Own → Reply → Own
 own_replied o (Begun child) = record o { refused = false }
 own_replied o (Refused why) = record o { line = o.line + 1; refused = true }
@@ -53,4 +57,5 @@ own_replied o _ = record o { line = o.line + 1; refused = false }
 -- the own half behind a command that was answered so by the hypervisor, which gave this back
 abbrev pub own_behind : Own → Command → Reply → Option PageBack → Own
 own_behind o command.Exit reply back = no_own
-own_behind o command reply back = own_replied (with_page_back (own_given o command reply) back) reply
+own_behind o command reply back =
+    own_replied (with_page_back (own_given o command reply) back) reply

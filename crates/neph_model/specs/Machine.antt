@@ -9,7 +9,8 @@ pub use Rattle.neph_model.specs.declared.life.Life.{Life}
 pub use Rattle.neph_model.specs.declared.life.Guest.{Guest}
 pub use Rattle.neph_model.specs.declared.life.Cloned.{Cloned}
 
--- the hypervisor's tables: what it keeps of each id, the id of the next child (64 after 63 was given), and the committed clones that wait for their second stage, oldest first
+-- the hypervisor's tables: what it keeps of each id, the id of the next child (64 after 63 was
+-- given), and the committed clones that wait for their second stage, oldest first
 pub record Tables : Type 0 where
   pub guests : List Guest
   pub next : ℕ
@@ -19,7 +20,8 @@ pub record Tables : Type 0 where
 abbrev pub Exposed : Type 0
 Exposed = map.FinMap nat_cmp (List ℕ)
 
--- the shared half: who is live, the hypervisor's tables, and the bytes of the exposed pages of each id
+-- the shared half: who is live, the hypervisor's tables, and the bytes of the exposed pages of each
+-- id
 pub record Shared : Type 0 where
   pub lives : List (Option Life)
   pub tables : Tables
@@ -32,7 +34,15 @@ pub record Machine : Type 0 where
 
 -- the own half of an id that has no domain
 abbrev pub no_own : Own
-no_own = record { line = 0; came = false; refused = false; pages = []; vmap = map.empty; leaves = []; alone = [] }
+no_own = record {
+  line = 0;
+  came = false;
+  refused = false;
+  pages = [];
+  vmap = map.empty;
+  leaves = [];
+  alone = [];
+}
 
 -- what is kept of an id that has no domain
 abbrev pub no_guest : Guest

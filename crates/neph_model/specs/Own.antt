@@ -1,4 +1,5 @@
--- What a domain does by itself: the rows of the local commands, which read and change its own half alone.
+-- What a domain does by itself: the rows of the local commands, which read and change its own half
+-- alone.
 use Rattle.std.specs.Prelude.{ℕ, Bool, true, false, if◌then◌else◌, ◌==◌, ◌+◌, ◌/◌, ◌%◌, ◌||◌, nat_lt, nat_le, List, [], ◌∷◌, ◌++◌, length, take, drop, Option, None, Some, Result, Ok, Err, slice_index_or, slice_set, option_map}
 use Rattle.std.specs.List.{list_any}
 use Rattle.std.specs.FinMap as map
@@ -40,9 +41,11 @@ LocalResult = Option (Result (Own × Reply) Refusal)
 
 -- the own half with these bytes at an offset of a page of its own, whose bytes were these
 abbrev pub with_bytes : Own → ℕ → List ℕ → ℕ → List ℕ → Own
-with_bytes o pfn page at bytes = with_alone (with_page o pfn (Some (page_with_bytes page at bytes))) pfn
+with_bytes o pfn page at bytes =
+    with_alone (with_page o pfn (Some (page_with_bytes page at bytes))) pfn
 
--- `w` where its address maps to this. The hypervisor is asked where the page is exposed, and where no frame is left for it.
+-- `w` where its address maps to this. The hypervisor is asked where the page is exposed, and where
+-- no frame is left for it.
 abbrev pub w_step : Own → Told → ℕ → List ℕ → Option Mapping → LocalResult
 w_step o told at bytes None = Some (Err Unmapped)
 w_step o told at bytes (Some to) = by (page_of o to.pfn) to.mode told where
@@ -72,13 +75,15 @@ has_leaf o vpn = list_any (λ g. g == vpn / 512) o.leaves
 
 -- the own half whose virtual page maps to this
 abbrev pub with_mapping : Own → ℕ → ℕ → Mode → Own
-with_mapping o vpn pfn mode = record o { vmap = map.insert o.vmap vpn (record { pfn = pfn; mode = mode }) }
+with_mapping o vpn pfn mode = record o
+    { vmap = map.insert o.vmap vpn (record { pfn = pfn; mode = mode }) }
 
 -- the own half with a leaf table for the group of this virtual page
 abbrev pub with_leaf : Own → ℕ → Own
 with_leaf o vpn = record o { leaves = o.leaves ++ vpn / 512 ∷ [] }
 
--- a `map` that needs a leaf table and would leave this. The hypervisor is asked where no frame is left for the table.
+-- a `map` that needs a leaf table and would leave this. The hypervisor is asked where no frame is
+-- left for the table.
 abbrev pub leaf_step : Own → Told → LocalResult
 leaf_step o Enough = Some (Ok (o, Done))
 leaf_step o Short = None
@@ -88,7 +93,8 @@ leaf_step o (Free f) = Some (Ok (o, Done))
 abbrev pub map_step : Own → Told → ℕ → ℕ → Mode → LocalResult
 map_step o told vpn pfn mode =
     if is_bad_pfn o pfn mode then Some (Err BadPfn)
-    else (if has_leaf o vpn then Some (Ok (with_mapping o vpn pfn mode, Done)) else leaf_step (with_leaf (with_mapping o vpn pfn mode) vpn) told)
+    else (if has_leaf o vpn then Some (Ok (with_mapping o vpn pfn mode, Done))
+    else leaf_step (with_leaf (with_mapping o vpn pfn mode) vpn) told)
 
 -- `unmap` of a virtual page that maps to this
 abbrev pub unmap_step : Own → ℕ → Option Mapping → LocalResult
@@ -105,12 +111,17 @@ abbrev pub jump_step : Own → ℕ → Bool → Option (Own × Reply)
 jump_step o line true = Some (record o { line = line }, Go)
 jump_step o line false = Some (record o { line = o.line + 1 }, On)
 
--- A command of a domain by itself, which runs the program with this number: its own half behind it, and the reply. None where it is a call of the hypervisor.
+-- A command of a domain by itself, which runs the program with this number: its own half behind it,
+-- and the reply. None where it is a call of the hypervisor.
 abbrev pub local_step : Script → ℕ → Own → Told → Command → Option (Own × Reply)
-local_step s p o told (command.W addr bytes) = option_map (settle o) (w_step o told (addr % 4096) bytes (mapping_at o addr))
-local_step s p o told (command.R addr len) = option_map (settle o) (r_step o (addr % 4096) len (mapping_at o addr))
-local_step s p o told (command.Map vpn pfn mode) = option_map (settle o) (map_step o told vpn pfn mode)
-local_step s p o told (command.Unmap vpn) = option_map (settle o) (unmap_step o vpn (map.get o.vmap vpn))
+local_step s p o told (command.W addr bytes) =
+    option_map (settle o) (w_step o told (addr % 4096) bytes (mapping_at o addr))
+local_step s p o told (command.R addr len) =
+    option_map (settle o) (r_step o (addr % 4096) len (mapping_at o addr))
+local_step s p o told (command.Map vpn pfn mode) =
+    option_map (settle o) (map_step o told vpn pfn mode)
+local_step s p o told (command.Unmap vpn) =
+    option_map (settle o) (unmap_step o vpn (map.get o.vmap vpn))
 local_step s p o told (command.Jump label) = jump_step o (label_line_at s p label) true
 local_step s p o told (command.JChild label) = jump_step o (label_line_at s p label) o.came
 local_step s p o told (command.JFail label) = jump_step o (label_line_at s p label) o.refused

@@ -8,6 +8,7 @@ use Rattle.neph_model.specs.Frames.{AddsUp}
 use Rattle.neph_model.specs.Books.{counts}
 use Rattle.neph_model.specs.Run.{Ran, IsRun, IsStalled}
 use Rattle.neph_model.specs.Legal.{Legal}
+use Rattle.neph_model.specs.Laws.{BearsCopies}
 
 -- two runs of one script are the same
 abbrev pub HasOneRun : Type 0
@@ -21,15 +22,23 @@ HasRun = (s : Script) → IsWellFormed s → (r : Ran) × IsRun s r
 abbrev pub EndsOverOrStalled : Type 0
 EndsOverOrStalled =
     (s : Script) (r : Ran) → IsWellFormed s → IsRun s r
-    → ((r.stalled ≡ false) × (is_over r.last.machine ≡ true)) ⊎ ((r.stalled ≡ true) × IsStalled s r.last.machine)
+    → ((r.stalled ≡ false) × (is_over r.last.machine ≡ true))
+    ⊎ ((r.stalled ≡ true) × IsStalled s r.last.machine)
 
 -- the run of a script that is well formed doesn't stall: no command can be blocked yet
 abbrev pub EndsOver : Type 0
-EndsOver = (s : Script) (r : Ran) → IsWellFormed s → IsRun s r → (r.stalled ≡ false) × (is_over r.last.machine ≡ true)
+EndsOver = (s : Script) (r : Ran) → IsWellFormed s → IsRun s r
+    → (r.stalled ≡ false) × (is_over r.last.machine ≡ true)
 
 -- the history of a run is a legal one, from the script's start to the last machine
 abbrev pub RunsLegally : Type 0
-RunsLegally = (s : Script) (r : Ran) → IsWellFormed s → IsRun s r → Legal s (start_machine s) r.history r.last.machine
+RunsLegally = (s : Script) (r : Ran) → IsWellFormed s → IsRun s r
+    → Legal s (start_machine s) r.history r.last.machine
+
+-- each commit of a run leaves the child as the listed copy of its parent at that place
+abbrev pub RunsBearCopies : Type 0
+RunsBearCopies = (s : Script) (r : Ran) → IsWellFormed s → IsRun s r
+    → BearsCopies s (start_machine s) r.history
 
 -- the frames that a run's last machine uses and those that are free are all that it has
 abbrev pub CountsAddUp : Type 0

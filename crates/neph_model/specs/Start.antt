@@ -28,9 +28,11 @@ start_vmap (suc n) = fm.insert (start_vmap n) n (record { pfn = n; mode = start_
 unfoldable pub identity_page : ℕ → ℕ → ℕ → List ℕ
 identity_page id parent pages = page_with_identity zero_page id parent pages
 
--- The pages of a starting domain's own half: the identity page, and zeros. The three device pages, 1 to 3, are exposed.
+-- The pages of a starting domain's own half: the identity page, and zeros. The three device pages,
+-- 1 to 3, are exposed.
 abbrev pub start_pages : ℕ → ℕ → List (Option (List ℕ))
-start_pages id pages = Some (identity_page id 0 pages) ∷ None ∷ None ∷ None ∷ replicate (pages - 4) (Some zero_page)
+start_pages id pages = Some (identity_page id 0 pages) ∷ None ∷ None ∷ None ∷ replicate (pages - 4)
+    (Some zero_page)
 
 -- its exposed pages: the console page, the network page and the 9P page, all zero
 abbrev pub start_exposed : Exposed
@@ -51,7 +53,13 @@ start_own n t =
 
 -- what it is born as
 abbrev pub start_life : ℕ → Start → Life
-start_life n t = record { parent = 0; family = n; program = t.program; limit = t.limit; size = t.pages }
+start_life n t = record {
+  parent = 0;
+  family = n;
+  program = t.program;
+  limit = t.limit;
+  size = t.pages;
+}
 
 -- something of each of some domain lines, the first of which has this number
 abbrev pub of_starts : {X : Type 0} → (ℕ → Start → X) → ℕ → List Start → List X
@@ -70,7 +78,11 @@ start_machine s =
       shared =
           record {
             lives = places None (λ n t. Some (start_life n t)) s.starts;
-            tables = record { guests = replicate 64 no_guest; next = 1 + length s.starts; waiting = [] };
+            tables = record {
+              guests = replicate 64 no_guest;
+              next = 1 + length s.starts;
+              waiting = [];
+            };
             pages = places fm.empty (λ n t. start_exposed) s.starts;
           };
     }

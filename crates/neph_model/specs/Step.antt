@@ -1,4 +1,5 @@
--- One step of the plain machine: a local line on the own half of its domain, and every other entry on the shared half.
+-- One step of the plain machine: a local line on the own half of its domain, and every other entry
+-- on the shared half.
 use Rattle.std.specs.Prelude.{ℕ, Bool, true, false, ◌==◌, ◌||◌, ◌&&◌, not, List, [], ◌∷◌, Option, None, Some, Ok, Err, slice_set, if◌then◌else◌}
 use Rattle.std.specs.List.{list_any}
 use Rattle.neph_base.specs.declared.command.Command.{Command}
@@ -16,7 +17,8 @@ use Rattle.neph_model.specs.Lent.{Lent, PageBack, lent, lent_whole, nothing_lent
 use Rattle.neph_model.specs.Trap.{CallResult, trap, is_blocked}
 use Rattle.neph_model.specs.Births.{child_own, parent_own, commit, end_domain, join}
 
--- what an entry under the lock does: the shared half behind it, its reply, and a page that it gives back
+-- what an entry under the lock does: the shared half behind it, its reply, and a page that it gives
+-- back
 pub record Locked : Type 0 where
   pub shared : Shared
   pub reply : Reply
@@ -28,7 +30,11 @@ locked sh reply = record { shared = sh; reply = reply; back = None }
 
 -- a call, which changes nothing where it is refused
 abbrev pub call_effect : Shared → CallResult → Locked
-call_effect sh (Ok did) = record { shared = record sh { tables = did.tables; pages = did.pages }; reply = did.reply; back = did.back }
+call_effect sh (Ok did) = record {
+  shared = record sh { tables = did.tables; pages = did.pages };
+  reply = did.reply;
+  back = did.back;
+}
 call_effect sh (Err why) = locked sh (reply.Refused why)
 
 -- a line of a domain under the lock: its end, or a call
@@ -48,7 +54,8 @@ shared_join sh (w ∷ rest) = locked (join sh rest) (reply.Child w.child)
 
 -- an entry under the lock, on the shared half and what is lent to it
 abbrev pub shared_step : Script → Shared → Entry → Lent → Told → Locked
-shared_step s sh (Line dom line) l told = shared_line sh dom l told (command_at s (program_run dom sh.lives) line)
+shared_step s sh (Line dom line) l told =
+    shared_line sh dom l told (command_at s (program_run dom sh.lives) line)
 shared_step s sh (Commit dom line) l told = shared_commit sh dom (guest_at dom sh.tables).begun
 shared_step s sh Daemon l told = shared_join sh sh.tables.waiting
 
@@ -58,7 +65,8 @@ actor (Line dom line) = dom
 actor (Commit dom line) = dom
 actor Daemon = 0
 
--- what the own half of its actor, which runs the program with this number, does of an entry by itself: None where it is one under the lock
+-- what the own half of its actor, which runs the program with this number, does of an entry by
+-- itself: None where it is one under the lock
 abbrev pub own_step : Script → ℕ → Own → Entry → Told → Option (Own × Reply)
 own_step s p o (Line dom line) told = local_step s p o told (command_at s p line)
 own_step s p o _ told = None
@@ -90,7 +98,8 @@ pub record Outcome : Type 0 where
   pub machine : Machine
   pub reply : Reply
 
--- an entry under the lock: the shared half does it with what is lent to it, and the own halves follow
+-- an entry under the lock: the shared half does it with what is lent to it, and the own halves
+-- follow
 abbrev pub locked_step : Script → Machine → Entry → Told → Outcome
 locked_step s m e told =
     let id = actor e in
@@ -98,7 +107,11 @@ locked_step s m e told =
     let o = own_at id m.own in
     let did = shared_step s m.shared e (lends s p o e) told in
     record {
-      machine = record { own = slice_set (bear m.own id o (child_made e did.reply)) id (own_after s p o e did.reply did.back); shared = did.shared };
+      machine = record {
+        own = slice_set (bear m.own id o (child_made e did.reply)) id
+            (own_after s p o e did.reply did.back);
+        shared = did.shared;
+      };
       reply = did.reply;
     }
 
@@ -109,7 +122,8 @@ step_by s m e told None = locked_step s m e told
 
 -- an entry
 abbrev pub step : Script → Machine → Entry → Told → Outcome
-step s m e told = step_by s m e told (own_step s (program_run (actor e) m.shared.lives) (own_at (actor e) m.own) e told)
+step s m e told = step_by s m e told
+    (own_step s (program_run (actor e) m.shared.lives) (own_at (actor e) m.own) e told)
 
 -- a clone waits for its second stage, of which this is the parent or the child
 abbrev pub awaits_join : ℕ → List Cloned → Bool
@@ -126,8 +140,11 @@ is_paused id sh = is_some_left (guest_at id sh.tables).begun || awaits_join id s
 
 -- by the shared half the entry may stand here: who does it is live and not paused, and can do it
 abbrev pub may_stand : Script → Shared → Entry → Bool
-may_stand s sh (Line dom line) = is_live dom sh.lives && (not (is_paused dom sh) && not (is_blocked sh dom (command_at s (program_run dom sh.lives) line)))
-may_stand s sh (Commit dom line) = is_live dom sh.lives && is_some_left (guest_at dom sh.tables).begun
+may_stand s sh (Line dom line) =
+    is_live dom sh.lives && (not (is_paused dom sh)
+    && not (is_blocked sh dom (command_at s (program_run dom sh.lives) line)))
+may_stand s sh (Commit dom line) =
+    is_live dom sh.lives && is_some_left (guest_at dom sh.tables).begun
 may_stand s sh Daemon = is_some_left sh.tables.waiting
 
 -- by the own half of its actor it may: the domain is at that line

@@ -54,14 +54,19 @@ family_program s family = program_at s (program_started (slice_get s.starts (fam
 abbrev pub command_text : Option Program → ℕ → List ℕ
 command_text p line = spaced (command_words (labels_of p) (command_in (commands_of p) line))
 
--- the line of an entry of a family: of a domain its place, then the command as the script has it or its commit, and the reply
+-- the line of an entry of a family: of a domain its place, then the command as the script has it or
+-- its commit, and the reply
 abbrev pub entry_line : Script → ℕ → Entry → Reply → List ℕ
 entry_line s family (Line dom line) reply =
-    decimal dom ++ codes ":" ++ decimal line ++ codes " " ++ command_text (family_program s family) line ++ codes " = " ++ reply_text reply ++ codes "\n"
-entry_line s family (Commit dom line) reply = decimal dom ++ codes ":" ++ decimal line ++ codes " commit = " ++ reply_text reply ++ codes "\n"
+    decimal dom ++ codes ":" ++ decimal line ++ codes " "
+    ++ command_text (family_program s family) line ++ codes " = " ++ reply_text reply
+    ++ codes "\n"
+entry_line s family (Commit dom line) reply =
+    decimal dom ++ codes ":" ++ decimal line ++ codes " commit = " ++ reply_text reply ++ codes "\n"
 entry_line s family Daemon reply = codes "daemon = " ++ reply_text reply ++ codes "\n"
 
--- the families of the ids from 0 to 63 behind an entry of this domain: the child that it makes, if any, has its family
+-- the families of the ids from 0 to 63 behind an entry of this domain: the child that it makes, if
+-- any, has its family
 abbrev pub families_after : List ℕ → ℕ → Option ℕ → List ℕ
 families_after families dom None = families
 families_after families dom (Some child) = slice_set families child (slice_index families dom)
@@ -71,7 +76,8 @@ abbrev pub history_text : Script → List ℕ → List Noted → List ℕ
 history_text s families [] = []
 history_text s families (x ∷ xs) =
     let dom = actor x.entry in
-    entry_line s (slice_index families dom) x.entry x.reply ++ history_text s (families_after families dom (child_made x.entry x.reply)) xs
+    entry_line s (slice_index families dom) x.entry x.reply
+    ++ history_text s (families_after families dom (child_made x.entry x.reply)) xs
 
 -- at the start each domain is of the family with its own number
 unfoldable pub start_families : List ℕ
@@ -80,8 +86,10 @@ start_families = range_with_len 0 64
 -- the line of the frames
 abbrev pub frames_line : Counts → List ℕ
 frames_line c =
-    codes "frames " ++ decimal c.total ++ codes " colours " ++ decimal c.colours ++ codes " tables " ++ decimal c.tables
-    ++ codes " spares " ++ decimal c.spares ++ codes " aside " ++ decimal c.aside ++ codes " free " ++ decimal c.free ++ codes "\n"
+    codes "frames " ++ decimal c.total ++ codes " colours " ++ decimal c.colours ++ codes " tables "
+    ++ decimal c.tables
+    ++ codes " spares " ++ decimal c.spares ++ codes " aside " ++ decimal c.aside ++ codes " free "
+    ++ decimal c.free ++ codes "\n"
 
 -- the last line
 abbrev pub end_line : Bool → List ℕ
@@ -90,4 +98,6 @@ end_line false = codes "end ended\n"
 
 -- the whole text of a script's history that came to these counts of frames, and stalled or not
 abbrev pub transcript : Script → List Noted → Counts → Bool → List ℕ
-transcript s history c stalled = codes "transcript 1\n" ++ history_text s start_families history ++ frames_line c ++ end_line stalled
+transcript s history c stalled =
+    codes "transcript 1\n" ++ history_text s start_families history ++ frames_line c
+    ++ end_line stalled

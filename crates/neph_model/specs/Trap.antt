@@ -1,4 +1,5 @@
--- The hypervisor's calls: the rows of the commands under the lock, on the shared half and what the own half lends.
+-- The hypervisor's calls: the rows of the commands under the lock, on the shared half and what the
+-- own half lends.
 use Rattle.std.specs.Prelude.{ℕ, Bool, false, if◌then◌else◌, ◌+◌, ◌%◌, nat_lt, nat_le, List, [], ◌∷◌, ◌++◌, take, drop, Option, None, Some, is_some, Result, Ok, Err, slice_set, unwrap_or}
 use Rattle.std.specs.Option.{option_map_or}
 use Rattle.std.specs.FinMap as fm
@@ -17,7 +18,8 @@ use Rattle.neph_model.specs.Memory.{page_with_bytes}
 use Rattle.neph_model.specs.Machine.{Life, Guest, Tables, Exposed, Shared, exposed_at, life_at, put_guest}
 use Rattle.neph_model.specs.Lent.{Lent, PageBack}
 
--- what a call that is accepted leaves: the tables and the exposed pages behind it, its reply, and a page that it gives back
+-- what a call that is accepted leaves: the tables and the exposed pages behind it, its reply, and a
+-- page that it gives back
 pub record Accepted : Type 0 where
   pub tables : Tables
   pub pages : List Exposed
@@ -50,19 +52,27 @@ with_exposed pages id pfn bytes = slice_set pages id (fm.insert (exposed_at id p
 
 -- the exposed pages with these bytes at an offset of one
 abbrev pub with_exposed_bytes : List Exposed → ℕ → ℕ → ℕ → List ℕ → List Exposed
-with_exposed_bytes pages id pfn at bytes = with_exposed pages id pfn (page_with_bytes (exposed_bytes pages id pfn) at bytes)
+with_exposed_bytes pages id pfn at bytes =
+    with_exposed pages id pfn (page_with_bytes (exposed_bytes pages id pfn) at bytes)
 
 -- `w` to an exposed page. To a page of its own a domain asks only where no frame is left.
 abbrev pub w_call : Shared → ℕ → ℕ → List ℕ → Option Mapping → CallResult
 w_call sh id at bytes None = Err refusal.NoFrame
-w_call sh id at bytes (Some to) = if is_exposed sh.pages id to.pfn then by to.mode else Err refusal.NoFrame where
-  by : Mode → CallResult
-  by Ro = Err refusal.ReadOnly
-  by Rw = answers (record sh { pages = with_exposed_bytes sh.pages id to.pfn at bytes }) reply.Done
+w_call sh id at bytes (Some to) =
+    if is_exposed sh.pages id to.pfn then by to.mode else Err refusal.NoFrame
+  where
+    written : List Exposed
+    written = with_exposed_bytes sh.pages id to.pfn at bytes
+
+    by : Mode → CallResult
+    by Ro = Err refusal.ReadOnly
+    by Rw = answers (record sh { pages = written }) reply.Done
 
 -- `r` of n bytes of an exposed page
 abbrev pub r_call : Shared → ℕ → ℕ → ℕ → Option Mapping → CallResult
-r_call sh id at n met = answers sh (reply.Bytes (option_map_or (λ (x : Mapping). take n (drop at (exposed_bytes sh.pages id x.pfn))) met []))
+r_call sh id at n met = answers sh (reply.Bytes (option_map_or bytes met [])) where
+  bytes : Mapping → List ℕ
+  bytes to = take n (drop at (exposed_bytes sh.pages id to.pfn))
 
 -- the number that `free` is told
 abbrev pub free_told : Told → ℕ
@@ -70,7 +80,8 @@ free_told Enough = 0
 free_told Short = 0
 free_told (Free f) = f
 
--- the frames that a clone needs: for its root table, its leaf tables, its identity page and its exposed pages
+-- the frames that a clone needs: for its root table, its leaf tables, its identity page and its
+-- exposed pages
 abbrev pub need : Exposed → ℕ → ℕ
 need exposed leaves = 2 + leaves + fm.len exposed
 
@@ -80,27 +91,35 @@ lacks_frames n Enough = None
 lacks_frames n Short = None
 lacks_frames n (Free f) = if nat_lt f n then Some (refusal.Frames n f) else None
 
--- Why a clone of a domain that was born so is refused, if it is: the domain has begun as many as its limit, every id was given, or too few frames are free.
+-- Why a clone of a domain that was born so is refused, if it is: the domain has begun as many as
+-- its limit, every id was given, or too few frames are free.
 abbrev pub clone_refusal : Tables → Guest → Option Life → ℕ → Told → Option Refusal
 clone_refusal t g None n told = Some refusal.Limit
 clone_refusal t g (Some life) n told =
-    if nat_le life.limit g.accepted then Some refusal.Limit else (if nat_le 64 t.next then Some refusal.Ids else lacks_frames n told)
+    if nat_le life.limit g.accepted then Some refusal.Limit
+    else (if nat_le 64 t.next then Some refusal.Ids else lacks_frames n told)
 
 -- A clone begins: the next id is drawn for the child, and the clone counts.
 abbrev pub begin_clone : Tables → ℕ → Guest → Tables
-begin_clone t id g = record (put_guest id (record g { begun = g.begun ++ t.next ∷ []; accepted = g.accepted + 1 }) t) { next = t.next + 1 }
+begin_clone t id g =
+    let counted = record g { begun = g.begun ++ t.next ∷ []; accepted = g.accepted + 1 } in
+    record (put_guest id counted t) { next = t.next + 1 }
 
 -- `clone`, refused so or begun
 abbrev pub clone_call : Shared → ℕ → Guest → Option Refusal → CallResult
 clone_call sh id g (Some why) = Err why
-clone_call sh id g None = answers (record sh { tables = begin_clone sh.tables id g }) (reply.Begun sh.tables.next)
+clone_call sh id g None = answers (record sh { tables = begin_clone sh.tables id g })
+    (reply.Begun sh.tables.next)
 
--- What a command of a domain asks of the hypervisor, by its rules. A local command asks only where no frame is left.
+-- What a command of a domain asks of the hypervisor, by its rules. A local command asks only where
+-- no frame is left.
 abbrev pub trap : Shared → ℕ → Guest → Lent → Told → Command → CallResult
 trap sh id g l told (command.W addr bytes) = w_call sh id (addr % 4096) bytes l.met
 trap sh id g l told (command.R addr len) = r_call sh id (addr % 4096) len l.met
 trap sh id g l told command.Free = answers sh (reply.Number (free_told told))
-trap sh id g l told command.Clone = clone_call sh id g (clone_refusal sh.tables g (life_at id sh.lives) (need (exposed_at id sh.pages) l.leaves) told)
+trap sh id g l told command.Clone =
+    clone_call sh id g (clone_refusal sh.tables g (life_at id sh.lives)
+    (need (exposed_at id sh.pages) l.leaves) told)
 trap sh id g l told _ = Err refusal.NoFrame
 
 -- a command that a domain can't do yet: none of today's waits for anything

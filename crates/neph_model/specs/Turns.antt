@@ -30,7 +30,8 @@ use Rattle.neph_model.specs.Trap.{is_blocked}
 use Rattle.neph_model.specs.Step.{Outcome, step, is_paused, is_due}
 use Rattle.neph_model.specs.Books.{Books, State, free, is_shared, no_book, book_at, put_book, book_spent, fresh_spent, shared_count, books_born}
 
--- what some turns did: the state after them, whether one did anything, the entries that they made, and how many page steps
+-- what some turns did: the state after them, whether one did anything, the entries that they made,
+-- and how many page steps
 pub record Done : Type 0 where
   pub state : State
   pub moved : Bool
@@ -42,24 +43,38 @@ nothing st = record { state = st; moved = false; noted = []; steps = 0 }
 
 -- a turn that makes no entry, leaves these books and makes so many page steps
 abbrev pub quietly : State → Books → ℕ → Done
-quietly st books steps = record { state = record st { books = books }; moved = true; noted = []; steps = steps }
+quietly st books steps = record {
+  state = record st { books = books };
+  moved = true;
+  noted = [];
+  steps = steps;
+}
 
 -- a turn that makes an entry with this outcome and leaves these books
 abbrev pub noting : Entry → Outcome → Books → Done
 noting e did books =
-    record { state = record { machine = did.machine; books = books }; moved = true; noted = record { entry = e; reply = did.reply } ∷ []; steps = 0 }
+    record {
+      state = record { machine = did.machine; books = books };
+      moved = true;
+      noted = record { entry = e; reply = did.reply } ∷ [];
+      steps = 0;
+    }
 
--- The page that a write to what its address maps to must copy: one of the domain's own that may be written there, of a colour that another page has too.
+-- The page that a write to what its address maps to must copy: one of the domain's own that may be
+-- written there, of a colour that another page has too.
 abbrev pub page_to_copy : Books → Own → Book → Option Mapping → Option ℕ
 page_to_copy bs o b None = None
 page_to_copy bs o b (Some to) = by to.mode where
   by : Mode → Option ℕ
   by Ro = None
-  by Rw = if is_some (page_of o to.pfn) && is_shared (slice_index_or b.colours to.pfn 0) bs then Some to.pfn else None
+  by Rw = if is_some (page_of o to.pfn) && is_shared (slice_index_or b.colours to.pfn 0) bs
+      then Some to.pfn else None
 
--- A line that needs a frame: it is done with the spare. Without one a spare is taken, or the line is told that no frame is left.
+-- A line that needs a frame: it is done with the spare. Without one a spare is taken, or the line
+-- is told that no frame is left.
 abbrev pub with_frame : ℕ → Book → Spends → Move
-with_frame free b spends = if b.spare then Does Enough spends else (if free == 0 then Does Short Nothing else TakesSpare)
+with_frame free b spends = if b.spare then Does Enough spends
+    else (if free == 0 then Does Short Nothing else TakesSpare)
 
 -- a write that was found to need a copy of this page, if it still needs it
 abbrev pub copy_move : ℕ → Book → Option ℕ → Move
@@ -68,23 +83,30 @@ copy_move free b (Some pfn) = with_frame free b (Copy pfn)
 
 -- a domain that is copying
 abbrev pub copying_move : ℕ → Books → Own → Book → Command → Move
-copying_move free bs o b (command.W addr bytes) = copy_move free b (page_to_copy bs o b (mapping_at o addr))
+copying_move free bs o b (command.W addr bytes) =
+    copy_move free b (page_to_copy bs o b (mapping_at o addr))
 copying_move free bs o b _ = Does Enough Nothing
 
 -- a domain that is ready for this command
 abbrev pub ready_move : ℕ → Books → Own → Book → Command → Move
-ready_move free bs o b (command.W addr bytes) = if is_some (page_to_copy bs o b (mapping_at o addr)) then Copies else Does Enough Nothing
-ready_move free bs o b (command.Map vpn pfn mode) = if is_bad_pfn o pfn mode || has_leaf o vpn then Does Enough Nothing else with_frame free b Leaf
+ready_move free bs o b (command.W addr bytes) = if is_some (page_to_copy bs o b (mapping_at o addr))
+    then Copies else Does Enough Nothing
+ready_move free bs o b (command.Map vpn pfn mode) = if is_bad_pfn o pfn mode || has_leaf o vpn
+    then Does Enough Nothing else with_frame free b Leaf
 ready_move free bs o b command.Free = Does (Told.Free free) Nothing
 ready_move free bs o b command.Clone = Does (Told.Free free) Nothing
 ready_move free bs o b _ = Does Enough Nothing
 
--- What a domain with this command at its line does in its turn, the first of these: a page step that is left, the commit behind the last one, nothing while it is paused, a copy, nothing while its command is blocked, and its command.
+-- What a domain with this command at its line does in its turn, the first of these: a page step
+-- that is left, the commit behind the last one, nothing while it is paused, a copy, nothing while
+-- its command is blocked, and its command.
 abbrev pub stage_move : ℕ → Books → Bool → Bool → Own → Book → Command → Stage → Move
 stage_move free bs paused blocked o b c (Forking (suc left)) = StepsPage
 stage_move free bs paused blocked o b c (Forking zero) = Commits
-stage_move free bs paused blocked o b c Copying = if paused then Rests else copying_move free bs o b c
-stage_move free bs paused blocked o b c Ready = if paused || blocked then Rests else ready_move free bs o b c
+stage_move free bs paused blocked o b c Copying =
+    if paused then Rests else copying_move free bs o b c
+stage_move free bs paused blocked o b c Ready =
+    if paused || blocked then Rests else ready_move free bs o b c
 
 -- the command at the line of the domain of an id
 abbrev pub next_command : Script → Machine → ℕ → Command
@@ -96,14 +118,16 @@ next_move s st id =
     let m = st.machine in
     let c = next_command s m id in
     let b = book_at id st.books in
-    stage_move (free s st) st.books (is_paused id m.shared) (is_blocked m.shared id c) (own_at id m.own) b c b.stage
+    stage_move (free s st) st.books (is_paused id m.shared) (is_blocked m.shared id c)
+    (own_at id m.own) b c b.stage
 
 -- the stage behind a page step
 abbrev pub stage_stepped : Stage → Stage
 stage_stepped (Forking (suc left)) = Forking left
 stage_stepped stage = stage
 
--- the stage of a domain behind a line with this reply: the page steps of a clone that it begins are left
+-- the stage of a domain behind a line with this reply: the page steps of a clone that it begins are
+-- left
 abbrev pub stage_after : Own → Reply → Stage
 stage_after o (reply.Begun child) = Forking (shared_count o)
 stage_after o _ = Ready
@@ -116,7 +140,8 @@ book_after o answer b = record b { stage = stage_after o answer }
 -- the books behind a line with this reply, after the domain's spare became this
 abbrev pub books_after : ℕ → Own → Spends → Reply → Books → Books
 books_after id o spends answer bs =
-    record (put_book id (book_after o answer (book_spent spends bs.fresh (book_at id bs))) bs) { fresh = fresh_spent spends bs.fresh }
+    record (put_book id (book_after o answer (book_spent spends bs.fresh (book_at id bs))) bs)
+    { fresh = fresh_spent spends bs.fresh }
 
 -- the line of the domain of an id, told this of the free frames, and what becomes of its spare
 abbrev pub line_turn : Script → State → ℕ → Told → Spends → Done
@@ -143,19 +168,24 @@ commit_turn s st id =
 -- a move of the domain of an id
 abbrev pub move_turn : Script → State → ℕ → Move → Done
 move_turn s st id Rests = nothing st
-move_turn s st id StepsPage = let b = book_at id st.books in quietly st (put_book id (record b { stage = stage_stepped b.stage }) st.books) 1
+move_turn s st id StepsPage = let b = book_at id st.books in
+    quietly st (put_book id (record b { stage = stage_stepped b.stage }) st.books) 1
 move_turn s st id Commits = commit_turn s st id
-move_turn s st id Copies = quietly st (put_book id (record (book_at id st.books) { stage = Copying }) st.books) 0
-move_turn s st id TakesSpare = quietly st (put_book id (record (book_at id st.books) { spare = true }) st.books) 0
+move_turn s st id Copies = quietly st
+    (put_book id (record (book_at id st.books) { stage = Copying }) st.books) 0
+move_turn s st id TakesSpare =
+    quietly st (put_book id (record (book_at id st.books) { spare = true }) st.books) 0
 move_turn s st id (Does told spends) = line_turn s st id told spends
 
 -- a turn of a domain, which does nothing where it isn't live
 abbrev pub domain_turn : Script → State → ℕ → Done
-domain_turn s st id = if is_live id st.machine.shared.lives then move_turn s st id (next_move s st id) else nothing st
+domain_turn s st id = if is_live id st.machine.shared.lives
+    then move_turn s st id (next_move s st id) else nothing st
 
 -- a turn of the daemon or of a backend: its entry, where there is work for it
 abbrev pub entry_turn : Script → State → Entry → Done
-entry_turn s st e = if is_due s st.machine e then noting e (step s st.machine e Enough) st.books else nothing st
+entry_turn s st e = if is_due s st.machine e then noting e (step s st.machine e Enough) st.books
+    else nothing st
 
 -- A turn of an actor. The backends have no work yet.
 abbrev pub turn : Script → State → Actor → Done
@@ -167,13 +197,20 @@ turn s st actor.P9 = nothing st
 
 -- some turns, and then others
 abbrev pub before : Done → Done → Done
-before a b = record { state = b.state; moved = a.moved || b.moved; noted = a.noted ++ b.noted; steps = a.steps + b.steps }
+before a b = record {
+  state = b.state;
+  moved = a.moved || b.moved;
+  noted = a.noted ++ b.noted;
+  steps = a.steps + b.steps;
+}
 
 -- the turns of these actors in order, until no domain is live
 abbrev pub turns : Script → State → List Actor → Done
 turns s st [] = nothing st
-turns s st (a ∷ rest) = if is_over st.machine then nothing st else (let one = turn s st a in before one (turns s one.state rest))
+turns s st (a ∷ rest) = if is_over st.machine then nothing st
+    else (let one = turn s st a in before one (turns s one.state rest))
 
 -- the actors of a round: the ids 1 to 63 by rising number, then the daemon and the backends
 unfoldable pub round : List Actor
-round = map actor.Dom (range_with_len 1 63) ++ (actor.Daemon ∷ actor.Console ∷ actor.Net ∷ actor.P9 ∷ [])
+round = map actor.Dom (range_with_len 1 63)
+    ++ (actor.Daemon ∷ actor.Console ∷ actor.Net ∷ actor.P9 ∷ [])

@@ -14,7 +14,8 @@ use Rattle.neph_model.specs.Counting.{lacks_well, entry_command}
 use Rattle.neph_model.specs.Step.{actor, own_step, lends, own_after, child_made, is_next, is_paused}
 use Rattle.neph_model.specs.Legal.{told_of, Act}
 
--- A local entry in its domain's log: its line and reply, and how many entries under the lock the domain had before it.
+-- A local entry in its domain's log: its line and reply, and how many entries under the lock the
+-- domain had before it.
 pub record LogItem : Type 0 where
   pub line : ℕ
   pub reply : Reply
@@ -46,20 +47,26 @@ count_at id counts = slice_index_or counts id 0
 abbrev pub log_at : ℕ → List (List LogItem) → List LogItem
 log_at id logs = slice_index_or logs id []
 
--- The weave of a journal with the logs of the ids, which have had so many entries under the lock: before each entry its actor's local ones since its entry before, and at the end those that are left by rising id.
+-- The weave of a journal with the logs of the ids, which have had so many entries under the lock:
+-- before each entry its actor's local ones since its entry before, and at the end those that are
+-- left by rising id.
 abbrev pub weave : List ℕ → List (List LogItem) → List Act → List Noted
 weave counts logs [] = rest_entries 0 logs
 weave counts logs (a ∷ acts) =
     let id = actor a.noted.entry in
     let n = count_at id counts in
     let log = log_at id logs in
-    log_entries id (items_due n log) ++ (a.noted ∷ weave (slice_set counts id (n + 1)) (slice_set logs id (items_later n log)) acts)
+    log_entries id (items_due n log)
+    ++ (a.noted ∷ weave (slice_set counts id (n + 1)) (slice_set logs id (items_later n log))
+    acts)
 
 -- these are the local entries of a domain that runs this program, from one own half to another
 abbrev pub RunsLocally : Script → ℕ → Own → List LogItem → Own → Type 0
 RunsLocally s p o [] last = o ≡ last
 RunsLocally s p o (x ∷ xs) last =
-    (next : Own) × ((x.line ≡ o.line) × (local_step s p o (told_of x.reply) (command_at s p x.line) ≡ Some (next, x.reply)) × RunsLocally s p next xs last)
+    (next : Own) × ((x.line ≡ o.line)
+    × (local_step s p o (told_of x.reply) (command_at s p x.line) ≡ Some (next, x.reply))
+    × RunsLocally s p next xs last)
 
 -- no local entry stands between a clone and its commit, and the daemon has none
 abbrev pub Follows : Entry → List LogItem → Type 0
@@ -88,14 +95,19 @@ abbrev pub RunsOn : Shared → ℕ → List LogItem → Type 0
 RunsOn sh id [] = ⊤
 RunsOn sh id (x ∷ xs) = is_running id sh ≡ true
 
--- What a worker knows of its domain: its own half from here to the end, by its log and the journal's acts. A domain that is yet to come begins at its commit, with what its parent lent there.
+-- What a worker knows of its domain: its own half from here to the end, by its log and the
+-- journal's acts. A domain that is yet to come begins at its commit, with what its parent lent
+-- there.
 abbrev pub Tracks : Script → Shared → ℕ → ℕ → Own → ℕ → List LogItem → List Act → Own → Type 0
 Tracks s end id p o n log [] last = RunsLocally s p o log last × RunsOn end id log
 Tracks s end id p o n log (a ∷ acts) last =
     (actor a.noted.entry ≡ id
-    → (here : Own) × (RunsLocally s p o (items_due n log) here × IsNextAct s p here (items_due n log) a
-    × Tracks s end id p (own_after s p here a.noted.entry a.noted.reply a.back) (n + 1) (items_later n log) acts last))
-    × (actor a.noted.entry ≢ id → Tracks s end id p (if makes id a then child_own id (actor a.noted.entry) a.lent.born else o) n log acts last)
+    → (here : Own) × (RunsLocally s p o (items_due n log) here
+    × IsNextAct s p here (items_due n log) a
+    × Tracks s end id p (own_after s p here a.noted.entry a.noted.reply a.back) (n + 1)
+    (items_later n log) acts last))
+    × (actor a.noted.entry ≢ id → Tracks s end id p (if makes id a
+    then child_own id (actor a.noted.entry) a.lent.born else o) n log acts last)
 
 -- a journal cut to an id: its acts of that domain, and the commit that makes it
 abbrev pub cut : ℕ → List Act → List Act

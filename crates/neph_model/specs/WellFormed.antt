@@ -40,7 +40,8 @@ pub record IsWellFormedStart (programs : ℕ) (t : Start) : Type 0 where
   pub limit : t.limit ≤ 62
   pub program : t.program < programs
 
--- the frames that the starting domains of some lines stand on: their pages, root tables and leaf tables
+-- the frames that the starting domains of some lines stand on: their pages, root tables and leaf
+-- tables
 abbrev pub frames_of_starts : List Start → ℕ
 frames_of_starts starts = sum_by (λ (t : Start). t.pages + 1 + started_512s t.pages) starts
 

@@ -37,7 +37,8 @@ label_name labels place = name_of (slice_get labels place)
 abbrev pub command_words : List Label → Command → List (List ℕ)
 command_words labels (W addr bytes) = codes "w" ∷ decimal addr ∷ hex bytes ∷ []
 command_words labels (R addr len) = codes "r" ∷ decimal addr ∷ decimal len ∷ []
-command_words labels (Map vpn pfn mode) = codes "map" ∷ decimal vpn ∷ decimal pfn ∷ mode_word mode ∷ []
+command_words labels (Map vpn pfn mode) =
+    codes "map" ∷ decimal vpn ∷ decimal pfn ∷ mode_word mode ∷ []
 command_words labels (Unmap vpn) = codes "unmap" ∷ decimal vpn ∷ []
 command_words labels (Jump label) = codes "jump" ∷ label_name labels label ∷ []
 command_words labels (JChild label) = codes "jchild" ∷ label_name labels label ∷ []

@@ -5,7 +5,8 @@ use crate::told::Told;
 use neph_base::Pfn;
 use std::marker::Model;
 
-/// The colour of each page of a domain, by pfn. Pages that a clone lets share one frame have one colour.
+/// The colour of each page of a domain, by pfn. Pages that a clone lets share one frame have one
+/// colour.
 #[derive(Drop)]
 pub struct Colours {
     list: Vec<u32>,
@@ -56,7 +57,8 @@ pub enum Stage {
     Forking(u16),
 }
 
-/// What the turns keep of a domain: how far it is with its line, its spare frame and the colours of its pages.
+/// What the turns keep of a domain: how far it is with its line, its spare frame and the colours of
+/// its pages.
 #[derive(Drop)]
 pub struct Book {
     /// How far it is with its line.

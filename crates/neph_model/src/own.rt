@@ -41,7 +41,8 @@ impl Pages {
     pub fn write(&mut self, pfn: usize, at: usize, bytes: &[u8])
         requires there { pfn < length self.old }
         requires inside { at + length bytes.now ≤ 4096 }
-        ensures { (page : List ℕ) → slice_index_or self.old pfn None ≡ Some page → self.new ≡ slice_set self.old pfn (Some (page_with_bytes page at bytes.now)) }
+        ensures { (page : List ℕ) → slice_index_or self.old pfn None ≡ Some page
+            → self.new ≡ slice_set self.old pfn (Some (page_with_bytes page at bytes.now)) }
     {
         if let Some(page) = &mut self.list[pfn] {
             page.write(at, bytes);
@@ -71,7 +72,8 @@ fn copied(page: &Option<Page>) -> Result<Option<Page>, NoMemory>
     }
 }
 
-/// The groups of 512 virtual pages that have a leaf table, in the order in which the tables were made.
+/// The groups of 512 virtual pages that have a leaf table, in the order in which the tables were
+/// made.
 pub type Leaves = List<u16>;
 
 /// Which page each virtual page maps to, and how.
@@ -92,7 +94,8 @@ pub struct Own {
     pub vmap: VMap,
     /// Its leaf tables.
     pub leaves: Leaves,
-    /// By pfn, whether no clone can share the page: it was written since the domain's last commit, or the domain has neither cloned nor come as a child.
+    /// By pfn, whether no clone can share the page: it was written since the domain's last commit,
+    /// or the domain has neither cloned nor come as a child.
     pub alone: List<bool>,
 }
 
@@ -100,7 +103,8 @@ impl Own {
     ghost use Rattle.std.specs.Prelude.{◌≡◌};
     ghost use Rattle.neph_model.specs.Own.{is_bad_pfn, has_leaf};
 
-    /// Whether it has no such page, or may not map it so: the identity page and the device pages are never writable.
+    /// Whether it has no such page, or may not map it so: the identity page and the device pages
+    /// are never writable.
     pub fn is_bad_pfn(&self, pfn: Pfn, mode: Mode) -> bool
         ensures { result ≡ is_bad_pfn self.now pfn mode }
     {

@@ -25,7 +25,8 @@ impl TryClone for Script {
     }
 }
 
-/// What a guest runs: its commands, numbered from 0. Behind the last stands an exit that isn't written.
+/// What a guest runs: its commands, numbered from 0. Behind the last stands an exit that isn't
+/// written.
 #[derive(Debug, Drop)]
 pub struct Program {
     /// The program's name.

@@ -17,7 +17,8 @@ pub fn put_family_command(
     family: u8,
     line: u16,
 ) -> Result<(), NoMemory>
-    ensures { OnOk result (text.new.items ≡ text.old.items ++ command_text (family_program s.now family) line) }
+    ensures { OnOk result (text.new.items ≡ text.old.items
+        ++ command_text (family_program s.now family) line) }
 {
     match family_program(s, family) {
         None => put_word(text, b"exit"),
@@ -39,7 +40,8 @@ fn family_program(s: &Script, family: u8) -> Option<&Program>
 }
 
 fn put_command_at(text: &mut Vec<u8>, program: &Program, line: u16) -> Result<(), NoMemory>
-    ensures { OnOk result (text.new.items ≡ text.old.items ++ command_text (Some program.now) line) }
+    ensures { OnOk result (text.new.items
+        ≡ text.old.items ++ command_text (Some program.now) line) }
 {
     let labels = program.labels.items();
     match program.commands.items().get(line as usize) {
@@ -49,7 +51,8 @@ fn put_command_at(text: &mut Vec<u8>, program: &Program, line: u16) -> Result<()
 }
 
 fn put_command(text: &mut Vec<u8>, labels: &[Label], command: Command) -> Result<(), NoMemory>
-    ensures { OnOk result (text.new.items ≡ text.old.items ++ spaced (command_words labels.now command)) }
+    ensures { OnOk result (text.new.items ≡ text.old.items
+        ++ spaced (command_words labels.now command)) }
 {
     match command {
         Command::W { addr, bytes } => {
@@ -87,7 +90,8 @@ fn mode_text(mode: Mode) -> &'static [u8]
 }
 
 fn put_jump(text: &mut Vec<u8>, word: &[u8], labels: &[Label], place: u16) -> Result<(), NoMemory>
-    ensures { OnOk result (text.new.items ≡ text.old.items ++ (word.now ++ label_name labels.now place)) }
+    ensures { OnOk result (text.new.items ≡ text.old.items
+        ++ (word.now ++ label_name labels.now place)) }
 {
     text.extend_from_slice(word)?;
     match labels.get(place as usize) {

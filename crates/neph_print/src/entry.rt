@@ -9,7 +9,8 @@ use neph_base::{DomId, Entry, NoMemory, Refusal, Reply};
 use neph_model::Script;
 use std::alloc::Global;
 
-/// The line of a transcript for an entry of a domain of this family, with its line feed. A family is the number of a `domain` line, from 1.
+/// The line of a transcript for an entry of a domain of this family, with its line feed. A family
+/// is the number of a `domain` line, from 1.
 pub fn entry_line(
     alloc: Global,
     s: &Script,
@@ -53,7 +54,8 @@ pub fn put_entry_line(
 
 // The place of a domain's entry, with a space behind it.
 fn put_place(text: &mut Vec<u8>, dom: DomId, line: u16) -> Result<(), NoMemory>
-    ensures { OnOk result (text.new.items ≡ text.old.items ++ (decimal dom ++ codes ":" ++ decimal line ++ codes " ")) }
+    ensures { OnOk result (text.new.items ≡ text.old.items
+        ++ (decimal dom ++ codes ":" ++ decimal line ++ codes " ")) }
 {
     put_number(text, dom.get())?;
     put_labelled(text, b":", u32::from(line))?;

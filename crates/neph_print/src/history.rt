@@ -9,7 +9,8 @@ use neph_model::Script;
 
 /// Puts the lines of the entries of a run from its start, in order, behind a text.
 pub fn put_history(text: &mut Vec<u8>, s: &Script, history: &[Noted]) -> Result<(), NoMemory>
-    ensures { OnOk result (text.new.items ≡ text.old.items ++ history_text s.now start_families history.now) }
+    ensures { OnOk result (text.new.items ≡ text.old.items
+        ++ history_text s.now start_families history.now) }
 {
     let mut families = start_families();
     for noted in history {
@@ -44,7 +45,8 @@ fn actor_of(entry: Entry) -> usize
 
 // The child that a commit makes has the family of its parent.
 fn note_child(families: &mut [u8; 64], entry: Entry, reply: Reply)
-    ensures after { families.new ≡ families_after families.old (actor entry) (child_made entry reply) }
+    ensures after { families.new ≡ families_after families.old (actor entry)
+        (child_made entry reply) }
 {
     let Entry::Commit { dom, .. } = entry else {
         return;

@@ -8,7 +8,8 @@ use neph_base::{NoMemory, Noted};
 use neph_model::{FrameCounts, Script};
 use std::alloc::Global;
 
-/// The transcript of a script's history, with what the frames were used for at its end, and whether it stalled.
+/// The transcript of a script's history, with what the frames were used for at its end, and whether
+/// it stalled.
 pub fn transcript(
     alloc: Global,
     s: &Script,

@@ -8,7 +8,10 @@ use Rattle.neph_rows.specs.declared.registry.Registry.TheInside.{Inside}
 
 -- the records that are kept so
 abbrev pub records_of : Inside → Records
-records_of a = record { lives = a.lives.items; tables = record { guests = guests_of a.slots.items; next = a.next; waiting = a.waiting.items } }
+records_of a = record {
+  lives = a.lives.items;
+  tables = record { guests = guests_of a.slots.items; next = a.next; waiting = a.waiting.items };
+}
 
 -- sound records, with room in each slot, and the count of the live domains
 pub record IsKept (a : Inside) : Type 0 where

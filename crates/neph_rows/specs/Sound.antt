@@ -25,7 +25,8 @@ pub record IsSoundLife (next id : ℕ) (l : Life) : Type 0 where
 abbrev pub IsPair : ℕ → Cloned → Type 0
 IsPair next w = (w.parent < next) × (w.child < next)
 
--- each id from 0 to 63 has a place, none is given after 63, no domain 0 is live, and what is kept of each id is sound
+-- each id from 0 to 63 has a place, none is given after 63, no domain 0 is live, and what is kept
+-- of each id is sound
 pub record IsSoundRecords (r : Records) : Type 0 where
   pub places : length r.lives ≡ 64
   pub guests : length r.tables.guests ≡ 64

@@ -1,5 +1,5 @@
 // The commit of a clone, the end of a domain and the second stage.
-ghost use Rattle.std.specs.Prelude.{◌≡◌, ◌<◌, ◌≤◌, ◌∷◌, ℕ, true, All, IfOk, OnErr, length, List, slice_set, slice_index_or, option_map};
+ghost use Rattle.std.specs.Prelude.{◌≡◌, ◌<◌, ◌≤◌, ◌∷◌, ℕ, true, All, IfOk, OnErr, length, List, slice_set, slice_get, slice_index_or, option_map, Some};
 ghost use Rattle.neph_model.specs.Births.{end_domain};
 ghost use Rattle.neph_model.specs.Machine.{Exposed, guest_at, is_live, live_count, no_guest};
 ghost use Rattle.neph_model.specs.declared.life.Life.{Life};
@@ -13,7 +13,8 @@ use crate::slots::{Slot, clear, take_first};
 use neph_base::{DomId, NoMemory, Reply};
 use neph_model::{Cloned, Life};
 
-/// Commits the first of the clones that a live domain has begun: its child is live, and waits with its parent for the second stage. Want of memory leaves all as before.
+/// Commits the first of the clones that a live domain has begun: its child is live, and waits with
+/// its parent for the second stage. Want of memory leaves all as before.
 pub fn commit<E: ExposedPages>(
     r: &mut Registry,
     pages: &mut E,
@@ -21,11 +22,15 @@ pub fn commit<E: ExposedPages>(
 ) -> Result<Reply, NoMemory>
     requires fits { E.fits pages.old }
     requires live { is_live dom r.old.lives ≡ true }
+    requires may { (child : ℕ) → slice_get (guest_at dom r.old.tables).begun 0 ≡ Some child
+        → E.may_bear pages.old child dom }
     ensures row { IfOk result (λ reply.
         shared_commit (shared_of r.old (E.pages pages.old)) dom (guest_at dom r.old.tables).begun
         ≡ locked (shared_of r.new (E.pages pages.new)) reply) }
-    ensures err { OnErr result (shared_of r.new (E.pages pages.new) ≡ shared_of r.old (E.pages pages.old)) }
+    ensures err { OnErr result (shared_of r.new (E.pages pages.new)
+        ≡ shared_of r.old (E.pages pages.old)) }
     ensures fits { E.fits pages.new }
+    ensures keeps { E.keeps pages.old pages.new }
 {
     let Some(child) = r.first_begun(dom) else {
         return Ok(Reply::Done);
@@ -47,7 +52,8 @@ fn commit_slots(slots: &mut Vec<Slot>, dom: DomId, child: DomId)
     ensures guests { (left : List ℕ) (first : ℕ)
         → (slice_index_or (guests_of slots.old.items) dom no_guest).begun ≡ first ∷ left
         → guests_of slots.new.items ≡ slice_set (slice_set (guests_of slots.old.items) dom
-        (record (slice_index_or (guests_of slots.old.items) dom no_guest) { begun = left })) child no_guest }
+        (record (slice_index_or (guests_of slots.old.items) dom no_guest) { begun = left })) child
+        no_guest }
     ensures room { All HasRoom slots.new.items }
 {
     take_first(slots, dom.get() as usize);
@@ -67,9 +73,11 @@ fn born(life: Option<Life>, parent: DomId) -> Option<Life>
 /// Ends a live domain.
 pub fn end<E: ExposedPages>(r: &mut Registry, pages: &mut E, dom: DomId) -> Reply
     requires fits { E.fits pages.old }
-    ensures row { end_domain (shared_of r.old (E.pages pages.old)) dom ≡ shared_of r.new (E.pages pages.new) }
+    ensures row { end_domain (shared_of r.old (E.pages pages.old)) dom
+        ≡ shared_of r.new (E.pages pages.new) }
     ensures reply { result ≡ Reply.Ended }
     ensures fits { E.fits pages.new }
+    ensures keeps { E.keeps pages.old pages.new }
 {
     let at = dom.get() as usize;
     clear(&mut r.slots, at);
@@ -81,7 +89,8 @@ pub fn end<E: ExposedPages>(r: &mut Registry, pages: &mut E, dom: DomId) -> Repl
 /// Does the second stage of the oldest clone that waits for it.
 pub fn join(r: &mut Registry) -> Reply
     ensures { (pages : List Exposed)
-        → shared_join (shared_of r.old pages) r.old.tables.waiting ≡ locked (shared_of r.new pages) result }
+        → shared_join (shared_of r.old pages) r.old.tables.waiting
+        ≡ locked (shared_of r.new pages) result }
 {
     match r.waiting.pop_front() {
         Some(w) => Reply::Child(w.child),

@@ -12,7 +12,8 @@ use crate::slots::count_clone;
 use neph_base::{DomId, Refusal, Reply};
 use neph_model::Told;
 
-/// The frames that a clone of a domain with so many leaf tables needs: for its root table, its leaf tables, its identity page and its exposed pages.
+/// The frames that a clone of a domain with so many leaf tables needs: for its root table, its leaf
+/// tables, its identity page and its exposed pages.
 pub fn need<E: ExposedPages>(pages: &E, dom: DomId, leaves: u32) -> u32
     requires fits { E.fits pages.now }
     requires few { leaves ≤ 65535 }
@@ -35,7 +36,8 @@ pub fn clone_call<E: ExposedPages>(
     ensures { let sh = shared_of r.old (E.pages pages.now) in
         let g = guest_at dom r.old.tables in
         let n = need (exposed_at dom (E.pages pages.now)) leaves in
-        call_effect sh (clone_call sh dom g (clone_refusal r.old.tables g (life_at dom r.old.lives) n told))
+        let why = clone_refusal r.old.tables g (life_at dom r.old.lives) n told in
+        call_effect sh (clone_call sh dom g why)
         ≡ locked (shared_of r.new (E.pages pages.now)) result }
 {
     let need = need(pages, dom, leaves);
@@ -47,7 +49,8 @@ pub fn clone_call<E: ExposedPages>(
 
 // Why a clone of a domain that needs so many frames is refused, if it is.
 fn clone_refusal(r: &Registry, dom: DomId, need: u32, told: Told) -> Option<Refusal>
-    ensures why { result ≡ clone_refusal r.now.tables (guest_at dom r.now.tables) (life_at dom r.now.lives) need told }
+    ensures why { result ≡ clone_refusal r.now.tables (guest_at dom r.now.tables)
+        (life_at dom r.now.lives) need told }
     ensures open { IfNone result (MayBegin r.now dom) }
 {
     let Some(life) = r.lives[dom.get() as usize] else {
@@ -69,7 +72,8 @@ fn clone_refusal(r: &Registry, dom: DomId, need: u32, told: Told) -> Option<Refu
 fn begin(r: &mut Registry, dom: DomId) -> DomId
     requires { MayBegin r.old dom }
     ensures child { result ≡ r.old.tables.next }
-    ensures records { r.new ≡ record r.old { tables = begin_clone r.old.tables dom (guest_at dom r.old.tables) } }
+    ensures lives { r.new.lives ≡ r.old.lives }
+    ensures tables { r.new.tables ≡ begin_clone r.old.tables dom (guest_at dom r.old.tables) }
 {
     let child = DomId::new(u32::from(r.next)).unwrap();
     count_clone(&mut r.slots, dom.get() as usize, child);

@@ -1,5 +1,5 @@
 // The bytes of exposed pages, however they are kept.
-ghost use Rattle.std.specs.Prelude.{◌≡◌, ◌+◌, ◌≤◌, length, List, take, drop, slice_set, true, OnOk, OnErr};
+ghost use Rattle.std.specs.Prelude.{◌≡◌, ◌+◌, ◌≤◌, ℕ, length, List, take, drop, slice_set, true, OnOk, OnErr};
 ghost use Rattle.std.specs.FinMap as fm;
 ghost use Rattle.neph_model.specs.Births.{child_exposed};
 ghost use Rattle.neph_model.specs.Machine.{Exposed, exposed_at};
@@ -14,6 +14,12 @@ pub trait ExposedPages {
 
     /// The bytes of the exposed pages, by domain and page.
     ghost pages: { Self → List Exposed };
+
+    /// What `bear` needs for a child of a parent beside.
+    ghost may_bear: { Self → ℕ → ℕ → Type 0 };
+
+    /// What holds of the states before and after each call: all else is as it was.
+    ghost keeps: { Self → Self → Type 0 };
 
     /// Whether a page of a domain is exposed.
     fn has(&self, id: DomId, pfn: Pfn) -> bool
@@ -30,9 +36,11 @@ pub trait ExposedPages {
         requires fits { fits self.old }
         requires there { is_exposed (pages self.old) id pfn ≡ true }
         requires inside { at + length into.old ≤ 4096 }
-        ensures bytes { into.new ≡ take (length into.old) (drop at (exposed_bytes (pages self.old) id pfn)) }
+        ensures bytes { into.new ≡ take (length into.old)
+            (drop at (exposed_bytes (pages self.old) id pfn)) }
         ensures same { pages self.new ≡ pages self.old }
-        ensures fits { fits self.new };
+        ensures fits { fits self.new }
+        ensures keeps { keeps self.old self.new };
 
     /// Writes bytes to an exposed page, from this offset on.
     fn write(&mut self, id: DomId, pfn: Pfn, at: usize, bytes: &[u8])
@@ -40,18 +48,26 @@ pub trait ExposedPages {
         requires there { is_exposed (pages self.old) id pfn ≡ true }
         requires inside { at + length bytes.now ≤ 4096 }
         ensures pages { pages self.new ≡ with_exposed_bytes (pages self.old) id pfn at bytes.now }
-        ensures fits { fits self.new };
+        ensures fits { fits self.new }
+        ensures keeps { keeps self.old self.new };
 
     /// Makes the exposed pages of a child from its parent's. Want of memory leaves all as before.
     fn bear(&mut self, child: DomId, parent: DomId) -> Result<(), NoMemory>
-        requires { fits self.old }
-        ensures ok { OnOk result (pages self.new ≡ slice_set (pages self.old) child (child_exposed (exposed_at parent (pages self.old)))) }
+        requires fits { fits self.old }
+        requires may { may_bear self.old child parent }
+        ensures ok { OnOk result (pages self.new ≡ slice_set (pages self.old) child
+            (child_exposed (exposed_at parent (pages self.old)))) }
         ensures err { OnErr result (pages self.new ≡ pages self.old) }
-        ensures fits { fits self.new };
+        ensures fits { fits self.new }
+        ensures keeps { keeps self.old self.new };
 
     /// Leaves a domain no exposed page.
     fn end(&mut self, id: DomId)
         requires { fits self.old }
         ensures pages { pages self.new ≡ slice_set (pages self.old) id fm.empty }
-        ensures fits { fits self.new };
+        ensures fits { fits self.new }
+        ensures keeps { keeps self.old self.new };
+
+    // Of one state it holds.
+    ghost keeps_itself: { (a : Self) → fits a → keeps a a };
 }

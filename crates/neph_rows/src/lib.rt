@@ -1,4 +1,5 @@
-//! The hypervisor's tables, and the rows of the entries under the lock on them, over exposed pages that are kept anyhow.
+//! The hypervisor's tables, and the rows of the entries under the lock on them, over exposed pages
+//! that are kept anyhow.
 #![tactic(auto)]
 
 mod births;

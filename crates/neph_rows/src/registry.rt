@@ -6,7 +6,8 @@ use std::alloc::Global;
 use std::collections::VecDeque;
 use std::marker::Model;
 
-/// The hypervisor's tables (after Xen's list of domains): who is live, what is kept of each id, the id of the next child, and the committed clones that wait for their second stage.
+/// The hypervisor's tables (after Xen's list of domains): who is live, what is kept of each id, the
+/// id of the next child, and the committed clones that wait for their second stage.
 #[derive(Drop)]
 pub struct Registry {
     pub(crate) lives: Vec<Option<Life>>,
@@ -39,8 +40,14 @@ impl Registry {
 
     /// Who is live at first, and the id of the next child; no clone has begun or waits.
     pub fn new(alloc: Global, lives: Vec<Option<Life>>, next: u8) -> Result<Self, NoMemory>
-        requires { IsSoundRecords (record { lives = lives.items; tables = record { guests = replicate 64 no_guest; next = next; waiting = [] } }) }
-        ensures { IfOk result (λ r. r ≡ record { lives = lives.items; tables = record { guests = replicate 64 no_guest; next = next; waiting = [] } }) }
+        requires { IsSoundRecords (record {
+          lives = lives.items;
+          tables = record { guests = replicate 64 no_guest; next = next; waiting = [] };
+        }) }
+        ensures { IfOk result (λ r. r ≡ record {
+          lives = lives.items;
+          tables = record { guests = replicate 64 no_guest; next = next; waiting = [] };
+        }) }
     {
         let live = lives.iter().filter(|life| life.is_some()).count();
         let mut slots = Vec::with_capacity(alloc, IDS)?;
@@ -107,7 +114,8 @@ impl Registry {
         self.slots[id.get() as usize].begun.len() as u32
     }
 
-    /// Whether a domain is paused: it has begun a clone, or waits for a clone's second stage as its parent or child.
+    /// Whether a domain is paused: it has begun a clone, or waits for a clone's second stage as its
+    /// parent or child.
     #[tactic(auto, using(crate::proofs::SlotFacts::some_left))]
     pub fn is_paused(&self, id: DomId) -> bool
         ensures { (pages : List Exposed) → result ≡ is_paused id (shared_of self.now pages) }

@@ -28,9 +28,11 @@ pub fn line<E: ExposedPages>(
     requires command { FitsPage command.now }
     requires asked { MayBeAsked (E.pages pages.old) dom lent.met command.now }
     requires few { lent.leaves ≤ 65535 }
-    ensures row { shared_line (shared_of r.old (E.pages pages.old)) dom (lent_of lent) told command.now
+    ensures row { shared_line (shared_of r.old (E.pages pages.old)) dom
+        (lent_of lent) told command.now
         ≡ locked (shared_of r.new (E.pages pages.new)) result }
     ensures fits { E.fits pages.new }
+    ensures keeps { E.keeps pages.old pages.new }
 {
     match command {
         Command::W { addr, bytes } => w_call(pages, dom, addr.offset(), bytes.bytes(), lent.met),

@@ -1,5 +1,5 @@
 -- A domain stands on no more frames than a domain line of its family allows.
-use Rattle.std.proofs.Common.{◌≡◌, ℕ, zero, suc, ◌+◌, ◌<◌, ◌≤◌, cond, inl, inr, List, [], ◌∷◌, length, drop, Option, Some, None, ap, arith}
+use Rattle.std.proofs.Common.{◌≡◌, ℕ, zero, suc, ◌+◌, ◌<◌, ◌≤◌, cond, inl, inr, List, [], ◌∷◌, length, drop, Option, Some, None, refl, ap, arith}
 use Rattle.std.specs.Prelude.{count_by, option_map}
 use Rattle.std.proofs.lemmas.Bool.Decides.{leb_tells}
 use Rattle.std.proofs.lemmas.List.Sums.{sum_by-cons}
@@ -15,7 +15,7 @@ use Rattle.neph_model.specs.declared.book.Spends.TheVariants.{Nothing, Leaf, Cop
 use Rattle.neph_model.specs.declared.told.Told.{Told}
 use Rattle.neph_model.specs.declared.told.Told.TheVariants.{Enough, Short, Free}
 use Rattle.neph_model.specs.Programs.{commands_of, program_at, command_in}
-use Rattle.neph_model.specs.Machine.{program_of}
+use Rattle.neph_model.specs.Machine.{program_of, size_of}
 use Rattle.neph_model.specs.Counting.{is_map, start_cap, cap, greater}
 use Rattle.neph_model.specs.Books.{Books}
 use Rattle.neph_runs.proofs.Says.{Says}
@@ -72,6 +72,11 @@ steps_capped s life o n c b bs k t sp h is says pages leaves later =
 pub child_capped : (s : Script) (id : ℕ) (life : Option Life) (o n : Own) → IsCapped s life o → length n.pages ≡ length o.pages → length n.leaves ≡ length o.leaves → o.line ≤ n.line → IsCapped s (option_map (λ (l : Life). record l { parent = id }) life) n
 child_capped s id None o n h pages leaves later = later_capped s None o n h pages leaves later
 child_capped s id (Some l) o n h pages leaves later = later_capped s (Some l) o n h pages leaves later
+
+-- and has as many pages
+pub child_size : (id : ℕ) (life : Option Life) → size_of life ≡ size_of (option_map (λ (l : Life). record l { parent = id }) life)
+child_size id None = refl
+child_size id (Some l) = refl
 
 greater_left : (m n : ℕ) → m ≤ greater m n
 greater_left m n = elim (leb_tells (suc m) n) [ inl h ↦ (let e = ap (λ b. cond b n m) h.0 in omega (arith, e, h.1)) | inr h ↦ (let e = ap (λ b. cond b n m) h.0 in omega (arith, e)) ]

@@ -26,4 +26,5 @@ pub mod Caps
 pub mod Ranges
 pub mod Possible
 pub mod Legally
+pub mod Copies
 pub mod CallerLemmas

@@ -21,7 +21,7 @@ use Rattle.neph_model.specs.declared.told.Told.{Told}
 use Rattle.neph_model.specs.declared.told.Told.TheVariants.{Enough, Short, Free}
 use Rattle.neph_model.specs.WellFormed.{IsWellFormed}
 use Rattle.neph_model.specs.Programs.{command_at}
-use Rattle.neph_model.specs.Machine.{no_own, no_guest, own_at, exposed_at, program_of}
+use Rattle.neph_model.specs.Machine.{no_own, no_guest, own_at, exposed_at, program_of, size_of}
 use Rattle.neph_model.specs.Trap.{need, lacks_frames, begin_clone}
 use Rattle.neph_model.specs.Births.{end_domain}
 use Rattle.neph_model.specs.Step.{Outcome, step}
@@ -45,11 +45,12 @@ use Rattle.neph_runs.proofs.Caps.{IsCapped, steps_capped}
 abbrev pub seat_command : Script → Seat → Command
 seat_command s x = command_at s (program_of x.life) x.own.line
 
--- the halves of a live domain are apart, it copies only at a write, and it stands on no more frames than its family may
+-- the halves of a live domain are apart, it copies only at a write, it stands on no more frames than its family may, and its life tells how many pages it has
 pub record IsSoundAt (s : Script) (x : Seat) : Type 0 where
   pub halves : AreHalves x.own x.exposed
   pub writes : WritesWhere x.book.stage (seat_command s x)
   pub capped : IsCapped s x.life x.own
+  pub sized : length x.own.pages ≡ size_of x.life
 
 -- a state in order, whose domains are so, and which uses no more frames than there are
 pub record IsSound (s : Script) (st : State) : Type 0 where
@@ -157,7 +158,7 @@ module _ (s : Script) (well : IsWellFormed s) (st : State) (id : ℕ) (sound : I
       let spares = spares_put bs id b bs.fresh booked in
       let colours = colours_put bs id b bs.fresh 0 (omega arith) booked (λ c lt. let e = ap (times c) same in omega (arith, e)) in
       let room' : frames_used new ≤ s.frames = omega (arith, uses.0, uses.1, spares, colours, room) in
-      record { orderly = orderly; seats = one_seats (IsSoundAt s) st new id y sound.seats turns (λ l. record { halves = h.halves; writes = writes; capped = h.capped }); room = room' }
+      record { orderly = orderly; seats = one_seats (IsSoundAt s) st new id y sound.seats turns (λ l. record { halves = h.halves; writes = writes; capped = h.capped; sized = h.sized }); room = room' }
 
   -- a line of a domain that goes on
   goes_sound : (told : Told) (spends : Spends) (out : Outcome) → AtLine x.book.stage → (c : Command) → c ≡ seat_command s x → Says (free s st) st.books x.own x.book c told spends → IsOrderly (after_line st id spends out) → Goes st.machine id out
@@ -192,7 +193,7 @@ module _ (s : Script) (well : IsWellFormed s) (st : State) (id : ℕ) (sound : I
       let aside_new : aside_at y ≡ 0 = ap (λ v. cond v (length x.guest.begun * need y.exposed (length g.after.leaves)) 0) live ∙ ap (λ (l : List ℕ). length l * need y.exposed (length g.after.leaves)) none ∙ omega arith in
       let room = sound.room in
       let room' : frames_used new ≤ s.frames = omega (arith, uses.0, uses.1, spares, colours, room, spare, same_spare, tables_old, tables_new, leaves, aside_new) in
-      record { orderly = orderly; seats = one_seats (IsSoundAt s) st new id y sound.seats turns (λ l. record { halves = halves; writes = writes; capped = capped }); room = room' }
+      record { orderly = orderly; seats = one_seats (IsSoundAt s) st new id y sound.seats turns (λ l. record { halves = halves; writes = writes; capped = capped; sized = stepped.pages ∙ h.sized }); room = room' }
 
   -- the end of a domain
   ends_sound : (spends : Spends) (out : Outcome) → IsOrderly (after_line st id spends out) → Ends st.machine id out → IsSound s (after_line st id spends out)
@@ -255,7 +256,7 @@ module _ (s : Script) (well : IsWellFormed s) (st : State) (id : ℕ) (sound : I
         let frees = free_is s st in
         let room = sound.room in
         let room' : frames_used new ≤ s.frames = omega (arith, uses.0, uses.1, spares, colours, spare, tables_old, aside_new, few, frees, room) in
-        record { orderly = subst IsOrderly whole orderly; seats = one_seats (IsSoundAt s) st new id y sound.seats turns (λ l. let k = h.halves in record { halves = record { hides = k.hides; apart = k.apart; maps = k.maps; marks = k.marks }; writes = tt; capped = h.capped }); room = room' }
+        record { orderly = subst IsOrderly whole orderly; seats = one_seats (IsSoundAt s) st new id y sound.seats turns (λ l. let k = h.halves in record { halves = record { hides = k.hides; apart = k.apart; maps = k.maps; marks = k.marks; devices = k.devices; identity = k.identity }; writes = tt; capped = h.capped; sized = h.sized }); room = room' }
 
   -- a line
   pub line_sound : (told : Told) (spends : Spends) → AtLine x.book.stage → Says (free s st) st.books x.own x.book (seat_command s x) told spends → IsSound s (line_turn s st id told spends).state

@@ -15,12 +15,14 @@ use Rattle.neph_model.specs.Births.{none_alone, parent_own, child_own, with_chan
 use Rattle.neph_model.specs.Books.{goes_shared, new_count}
 use Rattle.neph_runs.proofs.Steps.{Steps, hidden, MapsWithin, insert_shown, insert_count}
 
--- the halves of a domain: each page is in one of them, and each virtual page maps to one
+-- The halves of a domain: each page is in one of them, the device pages are exposed and the identity page isn't, and each virtual page maps to one.
 pub record AreHalves (o : Own) (e : Exposed) : Type 0 where
   pub hides : hidden o ≡ fm.len e
   pub apart : (pfn : ℕ) → pfn < length o.pages → is_some (page_of o pfn) ≡ not (is_some (fm.get e pfn))
   pub maps : MapsWithin o
   pub marks : length o.alone ≡ length o.pages
+  pub devices : (pfn : ℕ) → 0 < pfn → pfn < 4 → is_some (fm.get e pfn) ≡ true
+  pub identity : is_some (fm.get e 0) ≡ false
 
 -- a line leaves the halves apart
 pub steps_halves : (o n : Own) (e f : Exposed) (more : ℕ) (wrote : Option ℕ) → Steps o e n f more wrote → AreHalves o e → AreHalves n f
@@ -30,6 +32,8 @@ steps_halves o n e f more wrote steps h =
       apart = λ pfn lt. steps.halves pfn ∙ h.apart pfn (omega (arith, lt, steps.pages)) ∙ ap not (sym (steps.shown pfn));
       maps = steps.maps h.maps;
       marks = steps.marks ∙ h.marks ∙ sym steps.pages;
+      devices = λ pfn low high. steps.shown pfn ∙ h.devices pfn low high;
+      identity = steps.shown 0 ∙ h.identity;
     }
 
 none_size : (alone : List Bool) → length (none_alone alone) ≡ length alone
@@ -37,7 +41,7 @@ none_size [] = refl
 none_size (a ∷ rest) = ap suc (none_size rest)
 
 pub parent_halves : (o : Own) (e : Exposed) → AreHalves o e → AreHalves (parent_own o) e
-parent_halves o e h = record { hides = h.hides; apart = h.apart; maps = h.maps; marks = none_size o.alone ∙ h.marks }
+parent_halves o e h = record { hides = h.hides; apart = h.apart; maps = h.maps; marks = none_size o.alone ∙ h.marks; devices = h.devices; identity = h.identity }
 
 -- another page in the place of the first, where there is one
 pub first_some : (pages : List (Option (List ℕ))) (f : List ℕ → List ℕ) (at : ℕ) → is_some (get_or (set pages 0 (option_map f (get_or pages 0 None))) at None) ≡ is_some (get_or pages at None)
@@ -85,6 +89,8 @@ child_halves child id o e h =
       apart = λ pfn lt. first_some o.pages f pfn ∙ h.apart pfn (omega (arith, lt, lengths)) ∙ ap not (sym (child_shown e pfn));
       maps = λ vpn. subst (λ k. IfSome (fm.get o.vmap vpn) (λ (to : Mapping). to.pfn < k)) (sym lengths) (h.maps vpn);
       marks = none_size o.alone ∙ h.marks ∙ sym lengths;
+      devices = λ pfn low high. child_shown e pfn ∙ h.devices pfn low high;
+      identity = child_shown e 0 ∙ h.identity;
     }
 
 -- how many new colours a child needs for these pages, which aren't the first

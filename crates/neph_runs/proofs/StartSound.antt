@@ -20,7 +20,7 @@ use Rattle.neph_model.specs.declared.book.Book.{Book}
 use Rattle.neph_model.specs.declared.book.Stage.TheVariants.{Ready}
 use Rattle.neph_model.specs.Memory.{zero_page}
 use Rattle.neph_model.specs.WellFormed.{IsWellFormed, IsWellFormedStart, frames_of_starts}
-use Rattle.neph_model.specs.Machine.{Exposed, no_own}
+use Rattle.neph_model.specs.Machine.{Exposed, no_own, size_of}
 use Rattle.neph_model.specs.Trap.{need}
 use Rattle.neph_model.specs.Start.{started_512s, start_own, start_life, start_exposed, start_vmap, start_mode, start_pages, identity_page, of_starts}
 use Rattle.neph_model.specs.Books.{no_book, pages_in, book_of, start_books, start_state, page_count, colours_used, pages_of}
@@ -90,8 +90,17 @@ start_halves n programs t well =
       apart = λ pfn lt. here pfn (omega (arith, size, lt)) ∙ ap (λ x. not (is_some x)) (sym (get_three pfn));
       maps = λ v. subst (λ k. IfSome (fm.get (start_vmap t.pages) v) (λ (to : Mapping). to.pfn < k)) (sym size) (maps_below t.pages v);
       marks = length-replicate t.pages true ∙ sym size;
+      devices = λ pfn low high. ap is_some (get_three pfn) ∙ device pfn low high;
+      identity = ap is_some (get_three 0);
     }
   where
+    device : (pfn : ℕ) → 0 < pfn → pfn < 4 → is_some (three pfn) ≡ true
+    device zero low high = absurd (omega arith)
+    device (suc zero) low high = refl
+    device (suc (suc zero)) low high = refl
+    device (suc (suc (suc zero))) low high = refl
+    device (suc (suc (suc (suc j)))) low high = absurd (omega arith)
+
     here : (pfn : ℕ) → pfn < t.pages → is_some (get_or (start_pages n t.pages) pfn None) ≡ not (is_some (three pfn))
     here zero lt = refl
     here (suc zero) lt = refl
@@ -110,6 +119,17 @@ halves_at programs n (suc k) [] all zero live = absurd (false≢true live)
 halves_at programs n (suc k) [] all (suc j) live = halves_at programs n k [] all j live
 halves_at programs n k (t ∷ ts) all zero live = start_halves n programs t (All-head (IsWellFormedStart programs) t ts all)
 halves_at programs n k (t ∷ ts) all (suc j) live = halves_at programs (n + 1) k ts (All-tail (IsWellFormedStart programs) t ts all) j live
+
+-- a starting domain has the pages that its life tells
+sized_at : (programs n k : ℕ) (ts : List Start) → All (IsWellFormedStart programs) ts → (j : ℕ) → is_some (get_or (of_starts (λ i t. Some (start_life i t)) n ts ++ replicate k None) j None) ≡ true
+    → length (get_or (of_starts start_own n ts ++ replicate k no_own) j no_own).pages ≡ size_of (get_or (of_starts (λ i t. Some (start_life i t)) n ts ++ replicate k None) j None)
+sized_at programs n zero [] all j live = absurd (false≢true live)
+sized_at programs n (suc k) [] all zero live = absurd (false≢true live)
+sized_at programs n (suc k) [] all (suc j) live = sized_at programs n k [] all j live
+sized_at programs n k (t ∷ ts) all zero live =
+    let first = All-head (IsWellFormedStart programs) t ts all in
+    omega (arith, first.pages_low, length-replicate (t.pages - 4) (Some zero_page))
+sized_at programs n k (t ∷ ts) all (suc j) live = sized_at programs (n + 1) k ts (All-tail (IsWellFormedStart programs) t ts all) j live
 
 pub shifted : (f : ℕ → ℕ) (a n : ℕ) → sum_by f (range_with_len (a + 1) n) ≡ sum_by (λ j. f (suc j)) (range_with_len a n)
 shifted f a zero = refl
@@ -200,7 +220,7 @@ start_sound s well =
         let k = 63 - length s.starts in
         let opens = opens_at (length s.programs) 1 0 k s.starts well.starts j live in
         let ready : x.book.stage ≡ Ready = ap (λ (b : Book). b.stage) opens.ready in
-        record { halves = halves_at (length s.programs) 1 k s.starts well.starts j live; writes = subst (λ v. WritesWhere v (seat_command s x)) (sym ready) tt; capped = capped_at s (length s.programs) 1 k s.starts well.starts (λ m h. h) j live }
+        record { halves = halves_at (length s.programs) 1 k s.starts well.starts j live; writes = subst (λ v. WritesWhere v (seat_command s x)) (sym ready) tt; capped = capped_at s (length s.programs) 1 k s.starts well.starts (λ m h. h) j live; sized = sized_at (length s.programs) 1 k s.starts well.starts j live }
 
 range_none_low : (c a n : ℕ) → c < a → times c (range_with_len a n) ≡ 0
 range_none_low c a zero lt = refl

@@ -21,7 +21,14 @@ pub record Seat : Type 0 where
 abbrev pub seat : State → ℕ → Seat
 seat st id =
     let sh = st.machine.shared in
-    record { own = own_at id st.machine.own; life = life_at id sh.lives; guest = guest_at id sh.tables; exposed = exposed_at id sh.pages; book = book_at id st.books }
+    record {
+      own = own_at id st.machine.own;
+      life = life_at id sh.lives;
+      guest = guest_at id sh.tables;
+      exposed = exposed_at id sh.pages;
+      book =
+          book_at id st.books;
+    }
 
 -- there is a place for each id from 0 to 63
 pub record HasPlaces (st : State) : Type 0 where
@@ -31,11 +38,13 @@ pub record HasPlaces (st : State) : Type 0 where
   pub exposed : length st.machine.shared.pages ≡ 64
   pub books : length st.books.list ≡ 64
 
--- The children that a domain has begun: one of a greater id that was given, where page steps or the commit are left, and else none.
+-- The children that a domain has begun: one of a greater id that was given, where page steps or the
+-- commit are left, and else none.
 abbrev pub ForksWell : ℕ → ℕ → List ℕ → Stage → Type 0
 ForksWell id next begun Ready = begun ≡ []
 ForksWell id next begun Copying = begun ≡ []
-ForksWell id next begun (Forking left) = (child : ℕ) × ((begun ≡ child ∷ []) × (id < child) × (child < next))
+ForksWell id next begun (Forking left) =
+    (child : ℕ) × ((begun ≡ child ∷ []) × (id < child) × (child < next))
 
 -- a live domain with an id below the next one, of at most 1024 pages, with a colour for each
 pub record IsOrderlyAt (id next : ℕ) (x : Seat) : Type 0 where
@@ -50,4 +59,5 @@ pub record IsOrderly (st : State) : Type 0 where
   pub places : HasPlaces st
   pub low : 0 < st.machine.shared.tables.next
   pub high : st.machine.shared.tables.next ≤ 64
-  pub seats : (id : ℕ) → is_some (seat st id).life ≡ true → IsOrderlyAt id st.machine.shared.tables.next (seat st id)
+  pub seats : (id : ℕ) → is_some (seat st id).life ≡ true
+      → IsOrderlyAt id st.machine.shared.tables.next (seat st id)

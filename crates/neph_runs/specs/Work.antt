@@ -23,7 +23,8 @@ lines_left size line = 1 + (size - line)
 abbrev pub spare_left : Book → ℕ
 spare_left b = if b.spare then 0 else 1
 
--- What a domain at a line may still do, by its stage: four turns a line, and while it clones also what its child may do.
+-- What a domain at a line may still do, by its stage: four turns a line, and while it clones also
+-- what its child may do.
 abbrev pub stage_work : ℕ → Book → Stage → ℕ
 stage_work lines b Ready = 4 * lines + 1 + spare_left b
 stage_work lines b Copying = 4 * lines + spare_left b
@@ -35,8 +36,11 @@ size_by s life = length (commands_of (program_at s (program_of life)))
 
 -- what the domain of an id may still do
 abbrev pub work_at : Script → Seat → ℕ
-work_at s x = if is_some x.life then stage_work (lines_left (size_by s x.life) x.own.line) x.book x.book.stage else 0
+work_at s x = if is_some x.life
+    then stage_work (lines_left (size_by s x.life) x.own.line) x.book x.book.stage else 0
 
--- what is left to do: for each id that wasn't given, for each live domain, and for each clone that waits
+-- what is left to do: for each id that wasn't given, for each live domain, and for each clone that
+-- waits
 abbrev pub work_left : Script → State → ℕ
-work_left s st = 4096 * (64 - st.machine.shared.tables.next) + all_ids (λ id. work_at s (seat st id)) + length st.machine.shared.tables.waiting
+work_left s st = 4096 * (64 - st.machine.shared.tables.next)
+    + all_ids (λ id. work_at s (seat st id)) + length st.machine.shared.tables.waiting

@@ -1,5 +1,5 @@
 // Laws of runs.
-ghost use Rattle.neph_model.specs.RunLaws.{HasOneRun, HasRun, EndsOverOrStalled, EndsOver, RunsLegally, CountsAddUp};
+ghost use Rattle.neph_model.specs.RunLaws.{HasOneRun, HasRun, EndsOverOrStalled, EndsOver, RunsLegally, RunsBearCopies, CountsAddUp};
 
 /// No script has two runs.
 pub fn one_run()
@@ -24,6 +24,11 @@ pub fn ends_over()
 /// The history of a run is a legal one.
 pub fn runs_legally()
     ensures { RunsLegally }
+{}
+
+/// Each commit of a run leaves the child as the listed copy of its parent at that place.
+pub fn runs_bear_copies()
+    ensures { RunsBearCopies }
 {}
 
 /// The frames that a run's last machine uses and those that are free are all that it has.

@@ -47,7 +47,8 @@ others =
 abbrev pub form_of : List ℕ → Option Form
 form_of word = option_or (lookup (equals word) others) (option_map form.Command (verb_of word))
 
--- The first words of forms that aren't built yet: of files, of ends and dumps, of grants, of ports, of the store and of devices.
+-- The first words of forms that aren't built yet: of files, of ends and dumps, of grants, of ports,
+-- of the store and of devices.
 abbrev pub files_words : List (List ℕ)
 files_words = codes "dir" ∷ codes "file" ∷ []
 
@@ -55,7 +56,8 @@ abbrev pub ends_words : List (List ℕ)
 ends_words = codes "kill" ∷ codes "dump" ∷ codes "wipe" ∷ []
 
 abbrev pub grants_words : List (List ℕ)
-grants_words = codes "grant" ∷ codes "ungrant" ∷ codes "gmap" ∷ codes "gunmap" ∷ codes "hr" ∷ codes "hw" ∷ []
+grants_words = codes "grant" ∷ codes "ungrant" ∷ codes "gmap" ∷ codes "gunmap" ∷ codes "hr"
+    ∷ codes "hw" ∷ []
 
 abbrev pub events_words : List (List ℕ)
 events_words = codes "alloc" ∷ codes "bind" ∷ codes "send" ∷ codes "wait" ∷ codes "close" ∷ []
@@ -72,4 +74,5 @@ is_among words word = list_any (equals word) words
 
 -- a form that isn't built yet begins with this word
 abbrev pub is_later : List ℕ → Bool
-is_later word = is_among files_words word || is_among ends_words word || is_among grants_words word || is_among events_words word || is_among store_words word || is_among devices_words word
+is_later word = is_among files_words word || is_among ends_words word || is_among grants_words word
+    || is_among events_words word || is_among store_words word || is_among devices_words word

@@ -48,7 +48,8 @@ with_words r ws = do
   Ok (taken r i)
 
 abbrev pub with_line : Read → List ℕ → Result Read Why
-with_line r line = if is_text line then (if is_skipped line then Ok r else with_words r (words line)) else Err why.Bytes
+with_line r line = if is_text line
+    then (if is_skipped line then Ok r else with_words r (words line)) else Err why.Bytes
 
 -- a text may end at this place
 abbrev pub may_end : Place → Bool
@@ -58,10 +59,12 @@ may_end _ = false
 
 -- what was read is all, and the next line would have this number
 abbrev pub ended : ℕ → Read → Result Script BadScript
-ended n r = if may_end r.place then Ok (script_read r) else Err (record { line = n; why = why.Missing })
+ended n r = if may_end r.place then Ok (script_read r)
+    else Err (record { line = n; why = why.Missing })
 
 -- the lines from this number on
-abbrev pub read_on : ℕ → Result Read Why → (Read → Result Script BadScript) → Result Script BadScript
+abbrev pub read_on : ℕ → Result Read Why → (Read → Result Script BadScript)
+    → Result Script BadScript
 read_on n (Ok r) rest = rest r
 read_on n (Err w) rest = Err (record { line = n; why = w })
 

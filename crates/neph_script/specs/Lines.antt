@@ -25,7 +25,8 @@ use Rattle.neph_script.specs.declared.state.Item.TheVariants as item
 use Rattle.neph_script.specs.declared.why.Why.{Why}
 use Rattle.neph_script.specs.declared.why.Why.TheVariants as why
 
--- Which forms may stand at a place: the heading, the frames, at least one program, at least one domain line, and then turns. Commands and labels stand in a program.
+-- Which forms may stand at a place: the heading, the frames, at least one program, at least one
+-- domain line, and then turns. Commands and labels stand in a program.
 abbrev pub may_stand : Form → Place → Bool
 may_stand form.Heading place.Top = true
 may_stand form.Frames place.Headed = true
@@ -79,7 +80,8 @@ new_name given word = do
 -- a jump at this line to the label at a place, which must stand behind it
 abbrev pub ahead : List Label → ℕ → Option ℕ → Result ℕ Why
 ahead labels line None = Err why.Label
-ahead labels line (Some place) = if nat_lt line (label_line labels place) then Ok place else Err why.Label
+ahead labels line (Some place) = if nat_lt line (label_line labels place) then Ok place
+    else Err why.Label
 
 -- a jump at this line to the label of a name
 abbrev pub toward : List Label → ℕ → List ℕ → (ℕ → Command) → Result Command Why
@@ -120,11 +122,13 @@ started r program pages limit net = do
   p ← program_named r.programs program
   n ← number 8 1024 pages
   k ← number 0 62 limit
-  if equals net (codes "open") then fitting r (record { program = p; pages = n; limit = k }) else Err why.Word
+  if equals net (codes "open") then fitting r (record { program = p; pages = n; limit = k })
+      else Err why.Word
 
 -- `domain PROGRAM PAGES LIMIT exclusive` isn't built yet
 abbrev pub domain_line : Read → List ℕ → List ℕ → List ℕ → List ℕ → Result Item Why
-domain_line r program pages limit net = if equals net (codes "exclusive") then Err why.Unbuilt else started r program pages limit net
+domain_line r program pages limit net = if equals net (codes "exclusive") then Err why.Unbuilt
+    else started r program pages limit net
 
 -- words in the places of actors
 abbrev pub actors : List (List ℕ) → Result (List Actor) Why
@@ -185,22 +189,44 @@ item_of r _ _ = Err why.Form
 abbrev pub judged_form : Read → Option Form → List (List ℕ) → Result Item Why
 judged_form r None words = Err why.Word
 judged_form r (Some form) words =
-    if may_stand form r.place then (if is_many r form words then Err why.Many else (if are_whole words then item_of r form words else Err why.Form))
+    if may_stand form r.place then (if is_many r form words then Err why.Many
+    else (if are_whole words then item_of r form words else Err why.Form))
     else Err why.Word
 
 -- A line of words. What a form that isn't built yet begins is told first.
 abbrev pub judged : Read → List (List ℕ) → Result Item Why
 judged r [] = Err why.Word
-judged r (first ∷ words) = if is_later first then Err why.Unbuilt else judged_form r (form_of first) words
+judged r (first ∷ words) = if is_later first then Err why.Unbuilt
+    else judged_form r (form_of first) words
 
 -- what was read, with one more line
 abbrev pub taken : Read → Item → Read
 taken r item.Heading = record r { place = place.Headed }
 taken r (item.Frames n) = record r { place = place.Framed; frames = n }
-taken r (item.Program name) = record r { place = place.Inside; draft = record { name = name; said = []; labels = [] } }
+taken r (item.Program name) = record r {
+  place = place.Inside;
+  draft = record { name = name; said = []; labels = [] };
+}
 taken r (item.Command s) = record r { draft = record r.draft { said = r.draft.said ++ s ∷ [] } }
-taken r (item.Label name) = record r { draft = record r.draft { labels = r.draft.labels ++ record { name = name; at = length r.draft.said } ∷ [] } }
+taken r (item.Label name) = record r {
+  draft = record r.draft {
+    labels = r.draft.labels
+        ++ record { name = name; at = length r.draft.said } ∷ [];
+  };
+}
 taken r (item.End cs) =
-    record r { place = place.Between; programs = r.programs ++ record { name = r.draft.name; commands = cs; labels = r.draft.labels } ∷ []; draft = no_draft }
+    record r {
+      place = place.Between;
+      programs = r.programs ++ record {
+        name = r.draft.name;
+        commands = cs;
+        labels = r.draft.labels;
+      } ∷ [];
+      draft = no_draft;
+    }
 taken r (item.Start t) = record r { place = place.Started; starts = r.starts ++ t ∷ [] }
-taken r (item.Turns more) = record r { place = place.Turned; turn_lines = r.turn_lines + 1; turns = r.turns ++ more }
+taken r (item.Turns more) = record r {
+  place = place.Turned;
+  turn_lines = r.turn_lines + 1;
+  turns = r.turns ++ more;
+}

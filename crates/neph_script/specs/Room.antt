@@ -29,9 +29,11 @@ takes_spare (command.W addr bytes) = true
 takes_spare (command.Map vpn pfn mode) = true
 takes_spare _ = false
 
--- the frames that a domain may come to use: those at its start, one for each `map`, and a spare where one may be needed
+-- the frames that a domain may come to use: those at its start, one for each `map`, and a spare
+-- where one may be needed
 abbrev pub most_frames : List Command → Start → ℕ
-most_frames commands t = start_frames t + count_by is_map commands + (if list_any takes_spare commands then 1 else 0)
+most_frames commands t = start_frames t + count_by is_map commands
+    + (if list_any takes_spare commands then 1 else 0)
 
 -- as many domains as there may be of this many clones in a program, at most 64
 abbrev pub family_size : ℕ → ℕ
@@ -46,7 +48,8 @@ abbrev pub most_used : List Program → Start → ℕ
 most_used programs t = most_frames (commands_started programs t) t
 
 abbrev pub family_used : List Program → Start → ℕ
-family_used programs t = family_size (count_by is_clone (commands_started programs t)) * most_used programs t
+family_used programs t = family_size (count_by is_clone (commands_started programs t)) * most_used
+    programs t
 
 -- the frames that some starting domains and their clones may come to use
 abbrev pub all_used : List Program → List Start → ℕ
@@ -57,10 +60,12 @@ abbrev pub greatest_used : List Program → List Start → ℕ
 greatest_used programs [] = 0
 greatest_used programs (t ∷ ts) = max (most_used programs t) (greatest_used programs ts)
 
--- There is room for a domain line behind others: for all domains and their clones, or for 63 domains of the greatest kind.
+-- There is room for a domain line behind others: for all domains and their clones, or for 63
+-- domains of the greatest kind.
 abbrev pub has_room : ℕ → List Program → List Start → Start → Bool
 has_room n programs starts t =
-    nat_le (all_used programs starts + family_used programs t) n || nat_le (63 * max (greatest_used programs starts) (most_used programs t)) n
+    nat_le (all_used programs starts + family_used programs t) n
+    || nat_le (63 * max (greatest_used programs starts) (most_used programs t)) n
 
 -- no program has more than 512 commands
 abbrev pub AreSmall : List Program → Type 0

@@ -62,7 +62,8 @@ Fits r (item.End cs) = (r.place ≡ place.Inside) × (length cs ≤ 512)
 Fits r (item.Start t) = (length r.starts < 16) × (t.pages ≤ 1024)
 Fits r (item.Turns more) = r.turn_lines < 64
 
--- What was read with a line is this, where the line was taken. Where it wasn't, it can't stand, unless memory ran out.
+-- What was read with a line is this, where the line was taken. Where it wasn't, it can't stand,
+-- unless memory ran out.
 abbrev pub Moves : Result state.Read Why → state.Read → Result (Unit {0}) LineEnd → Type 0
 Moves wanted now (Ok x) = wanted ≡ Ok now
 Moves wanted now (Err e) = Fails e wanted

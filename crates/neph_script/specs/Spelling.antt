@@ -42,7 +42,8 @@ name_of_program (Some p) = p.name
 
 -- the words of a domain line
 abbrev pub start_words : List Program → Start → List (List ℕ)
-start_words programs t = codes "domain" ∷ name_of_program (slice_get programs t.program) ∷ decimal t.pages ∷ decimal t.limit ∷ codes "open" ∷ []
+start_words programs t = codes "domain" ∷ name_of_program (slice_get programs t.program)
+    ∷ decimal t.pages ∷ decimal t.limit ∷ codes "open" ∷ []
 
 -- the words of a line with turns
 abbrev pub turns_words : List Actor → List (List ℕ)
@@ -91,7 +92,8 @@ form_said (item.Turns more) = form.Turns
 
 -- the numbers and bytes of a command are in their ranges; a jump is said by its label's name
 abbrev pub InRange : Command → Type 0
-InRange (command.W addr bytes) = (addr < 2 ^ 30) × (0 < length bytes) × (length bytes ≤ 64) × All (λ b. b < 256) bytes × (addr % 4096 + length bytes ≤ 4096)
+InRange (command.W addr bytes) = (addr < 2 ^ 30) × (0 < length bytes) × (length bytes ≤ 64)
+    × All (λ b. b < 256) bytes × (addr % 4096 + length bytes ≤ 4096)
 InRange (command.R addr len) = (addr < 2 ^ 30) × (1 ≤ len) × (len ≤ 64) × (addr % 4096 + len ≤ 4096)
 InRange (command.Map vpn pfn mode) = (vpn < 262144) × (pfn < 1024)
 InRange (command.Unmap vpn) = vpn < 262144
@@ -113,11 +115,13 @@ abbrev pub IsActor : Actor → Type 0
 IsActor (actor.Dom d) = (1 ≤ d) × (d ≤ 63)
 IsActor _ = ⊤
 
--- a domain line whose program is there, whose numbers are in their ranges, and for which there are frames
+-- a domain line whose program is there, whose numbers are in their ranges, and for which there are
+-- frames
 pub record CanStart (r : Read) (t : Start) : Type 0 where
   pub program : t.program < length r.programs
   pub name : is_name (name_of_program (slice_get r.programs t.program)) ≡ true
-  pub named : program_place r.programs (name_of_program (slice_get r.programs t.program)) ≡ Some t.program
+  pub named : program_place r.programs (name_of_program (slice_get r.programs t.program))
+      ≡ Some t.program
   pub pages_low : 8 ≤ t.pages
   pub pages_high : t.pages ≤ 1024
   pub limit : t.limit ≤ 62

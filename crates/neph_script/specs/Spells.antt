@@ -41,7 +41,8 @@ abbrev pub CannotStand : Read → List (List ℕ) → Why → Type 0
 CannotStand r [] w = (may_end r.place ≡ false) × (w ≡ why.Missing)
 CannotStand r (line ∷ more) w = with_line r line ≡ Err w
 
--- The lines before a fault stand. Behind them a line can't stand for this reason, or the text ends where a line must come.
+-- The lines before a fault stand. Behind them a line can't stand for this reason, or the text ends
+-- where a line must come.
 pub record IsFault (bytes : List ℕ) (bad : BadScript) : Type 0 where
   pub front : List (List ℕ)
   pub rest : List (List ℕ)

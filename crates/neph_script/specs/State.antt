@@ -31,8 +31,21 @@ no_draft = record { name = []; said = []; labels = [] }
 
 -- nothing was read yet
 abbrev pub nothing_read : Read
-nothing_read = record { place = place.Top; frames = 0; programs = []; draft = no_draft; starts = []; turn_lines = 0; turns = [] }
+nothing_read = record {
+  place = place.Top;
+  frames = 0;
+  programs = [];
+  draft = no_draft;
+  starts = [];
+  turn_lines = 0;
+  turns = [];
+}
 
 -- the script that was read
 abbrev pub script_read : Read → Script
-script_read r = record { frames = r.frames; programs = r.programs; starts = r.starts; turns = r.turns }
+script_read r = record {
+  frames = r.frames;
+  programs = r.programs;
+  starts = r.starts;
+  turns = r.turns;
+}

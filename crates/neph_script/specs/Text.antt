@@ -24,14 +24,18 @@ label_words l = codes "label" ∷ l.name ∷ []
 abbrev pub end_words : List (List ℕ)
 end_words = codes "end" ∷ []
 
--- Commands from this number on and the labels among them, a label before the command whose number it has. Each command has the words that f gives it.
-abbrev pub body_words : {X : Type 0} → (X → List (List ℕ)) → ℕ → List X → List Label → List (List (List ℕ))
+-- Commands from this number on and the labels among them, a label before the command whose number
+-- it has. Each command has the words that f gives it.
+abbrev pub body_words : {X : Type 0} → (X → List (List ℕ)) → ℕ → List X → List Label
+    → List (List (List ℕ))
 body_words f at xs [] = map f xs
-body_words f at xs (l ∷ ls) = map f (take (l.at - at) xs) ++ label_words l ∷ body_words f (at + (l.at - at)) (drop (l.at - at) xs) ls
+body_words f at xs (l ∷ ls) = map f (take (l.at - at) xs) ++ label_words l
+    ∷ body_words f (at + (l.at - at)) (drop (l.at - at) xs) ls
 
 -- the lines of a program
 abbrev pub program_words : Program → List (List (List ℕ))
-program_words p = program_head p.name ∷ (body_words (command_words p.labels) 0 p.commands p.labels ++ end_words ∷ [])
+program_words p = program_head p.name ∷ (body_words (command_words p.labels) 0 p.commands p.labels
+    ++ end_words ∷ [])
 
 -- this many groups of 64 actors, the last of which may be shorter
 abbrev pub groups : ℕ → List Actor → List (List Actor)
@@ -45,7 +49,9 @@ turn_groups actors = groups ((length actors + 63) / 64) actors
 -- the lines of a script, each as its words
 abbrev pub script_words : Script → List (List (List ℕ))
 script_words s =
-    heading_words ∷ frames_words s.frames ∷ (flat_map program_words s.programs ++ map (start_words s.programs) s.starts ++ map turns_words (turn_groups s.turns))
+    heading_words ∷ frames_words s.frames
+    ∷ (flat_map program_words s.programs ++ map (start_words s.programs) s.starts
+    ++ map turns_words (turn_groups s.turns))
 
 -- a line of these words
 abbrev pub line_text : List (List ℕ) → List ℕ

@@ -27,7 +27,8 @@ number low high word = ok_or (number_in low high word) why.Number
 
 -- the value of a hexadecimal digit in lower case
 abbrev pub digit_value : ℕ → Option ℕ
-digit_value b = if nat_le 48 b && nat_le b 57 then Some (b - 48) else (if nat_le 97 b && nat_le b 102 then Some (b - 87) else None)
+digit_value b = if nat_le 48 b && nat_le b 57 then Some (b - 48)
+    else (if nat_le 97 b && nat_le b 102 then Some (b - 87) else None)
 
 -- a byte of two digits
 abbrev pub byte_value : Option ℕ → Option ℕ → Option ℕ
@@ -43,12 +44,14 @@ in_front _ _ = None
 unfoldable pub hex_bytes : List ℕ → Option (List ℕ)
 hex_bytes [] = Some []
 hex_bytes (x ∷ []) = None
-hex_bytes (high ∷ low ∷ rest) = in_front (byte_value (digit_value high) (digit_value low)) (hex_bytes rest)
+hex_bytes (high ∷ low ∷ rest) =
+    in_front (byte_value (digit_value high) (digit_value low)) (hex_bytes rest)
 
 -- bytes that are 1 to 64
 abbrev pub sized : Option (List ℕ) → Option (List ℕ)
 sized None = None
-sized (Some bytes) = if nat_lt 0 (length bytes) && nat_le (length bytes) 64 then Some bytes else None
+sized (Some bytes) = if nat_lt 0 (length bytes) && nat_le (length bytes) 64 then Some bytes
+    else None
 
 -- a word in the place of 1 to 64 bytes
 abbrev pub piece : List ℕ → Result (List ℕ) Why
@@ -68,7 +71,8 @@ is_name_byte b = is_letter b || is_digit b
 
 -- 1 to 16 letters and digits, the first a letter
 abbrev pub is_name : List ℕ → Bool
-is_name name = nat_lt 0 (length name) && nat_lt (length name) 17 && is_letter (slice_index name 0) && list_all is_name_byte name
+is_name name = nat_lt 0 (length name) && nat_lt (length name) 17 && is_letter (slice_index name 0)
+    && list_all is_name_byte name
 
 -- a word in the place of a name
 abbrev pub name : List ℕ → Result (List ℕ) Why
@@ -76,7 +80,8 @@ name word = if is_name word then Ok word else Err why.Name
 
 -- a word in the place of `ro` or `rw`
 abbrev pub mode : List ℕ → Result Mode Why
-mode word = if equals word (codes "ro") then Ok Ro else (if equals word (codes "rw") then Ok Rw else Err why.Word)
+mode word = if equals word (codes "ro") then Ok Ro
+    else (if equals word (codes "rw") then Ok Rw else Err why.Word)
 
 -- a word in the place of a domain's number
 abbrev pub numbered : Option ℕ → Result Actor Why

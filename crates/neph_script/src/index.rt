@@ -31,7 +31,8 @@ impl Index {
 
     /// Lets a name stand at a place, unless it stands at one already.
     pub fn put(&mut self, name: Vec<u8>, place: u16) -> Result<(), NoMemory>
-        ensures { OnOk result ((q : List ℕ) → place_in self.new q ≡ place_after (place_in self.old q) (equals q name.items) place) }
+        ensures { OnOk result ((q : List ℕ)
+            → place_in self.new q ≡ place_after (place_in self.old q) (equals q name.items) place) }
     {
         match self.place(name.as_slice()) {
             Some(_) => Ok(()),

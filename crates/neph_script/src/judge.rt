@@ -35,7 +35,8 @@ impl Reader {
 
     fn judge_form(&self, alloc: Global, form: Form, words: &[&[u8]]) -> Result<Item, LineEnd>
         requires { IsSound self.now }
-        ensures { Gives result (judged_form (seen self.now) (Some form) (map (λ w. w.now) words.now)) }
+        ensures { Gives result (judged_form (seen self.now) (Some form)
+            (map (λ w. w.now) words.now)) }
     {
         if !may_stand(form, self.place) {
             return Err(LineEnd::Bad(Why::Word));

@@ -14,5 +14,6 @@ pub fn one_script()
 
 /// What a line is judged to say is what its words spell there.
 pub fn lines_say()
-    ensures { (r : Read) (words : List (List ℕ)) (i : Item) → (judged r words ≡ Ok i) ↔ Stands r words i }
+    ensures { (r : Read) (words : List (List ℕ)) (i : Item)
+        → (judged r words ≡ Ok i) ↔ Stands r words i }
 {}

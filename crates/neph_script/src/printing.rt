@@ -13,7 +13,8 @@ use neph_base::{Actor, Command, Mode, NoMemory};
 use neph_model::{Label, Program, Script, Start};
 use std::alloc::Global;
 
-/// The text of a script: its lines in order, without skipped ones, and with 64 actors on each line of turns but the last.
+/// The text of a script: its lines in order, without skipped ones, and with 64 actors on each line
+/// of turns but the last.
 pub fn print_script(alloc: Global, s: &Script) -> Result<Vec<u8>, NoMemory>
     ensures text { IfOk result (λ text. text.items ≡ script_text s.now) }
     // A script that some bytes spell is spelled by its text, and read of it again.
@@ -45,7 +46,8 @@ fn put_frames(out: &mut Vec<u8>, n: u32) -> Result<(), NoMemory>
 }
 
 fn put_programs(out: &mut Vec<u8>, programs: &[Program]) -> Result<(), NoMemory>
-    ensures { OnOk result (out.new.items ≡ out.old.items ++ lines_text (flat_map program_words programs.now)) }
+    ensures { OnOk result (out.new.items
+        ≡ out.old.items ++ lines_text (flat_map program_words programs.now)) }
 {
     for program in programs {
         put_program(out, program)?;
@@ -54,7 +56,8 @@ fn put_programs(out: &mut Vec<u8>, programs: &[Program]) -> Result<(), NoMemory>
 }
 
 fn put_program(out: &mut Vec<u8>, program: &Program) -> Result<(), NoMemory>
-    ensures { OnOk result (out.new.items ≡ out.old.items ++ lines_text (program_words program.now)) }
+    ensures { OnOk result (out.new.items
+        ≡ out.old.items ++ lines_text (program_words program.now)) }
 {
     put(out, b"program ")?;
     put(out, program.name.items())?;
@@ -66,7 +69,9 @@ fn put_program(out: &mut Vec<u8>, program: &Program) -> Result<(), NoMemory>
 
 // The commands and the labels among them.
 fn put_body(out: &mut Vec<u8>, labels: &[Label], commands: &[Command]) -> Result<(), NoMemory>
-    ensures { OnOk result (out.new.items ≡ out.old.items ++ lines_text (body_words (command_words labels.now) 0 commands.now labels.now)) }
+    ensures { OnOk result (out.new.items
+        ≡ out.old.items ++ lines_text (body_words (command_words labels.now) 0 commands.now
+        labels.now)) }
 {
     let mut rest = commands;
     let mut at = 0u16;
@@ -90,7 +95,8 @@ fn put_label(out: &mut Vec<u8>, label: &Label) -> Result<(), NoMemory>
 }
 
 fn put_commands(out: &mut Vec<u8>, labels: &[Label], commands: &[Command]) -> Result<(), NoMemory>
-    ensures { OnOk result (out.new.items ≡ out.old.items ++ lines_text (map (command_words labels.now) commands.now)) }
+    ensures { OnOk result (out.new.items
+        ≡ out.old.items ++ lines_text (map (command_words labels.now) commands.now)) }
 {
     for command in commands {
         put_command(out, labels, command)?;
@@ -99,14 +105,16 @@ fn put_commands(out: &mut Vec<u8>, labels: &[Label], commands: &[Command]) -> Re
 }
 
 fn put_command(out: &mut Vec<u8>, labels: &[Label], command: &Command) -> Result<(), NoMemory>
-    ensures { OnOk result (out.new.items ≡ out.old.items ++ line_text (command_words labels.now command.now)) }
+    ensures { OnOk result (out.new.items
+        ≡ out.old.items ++ line_text (command_words labels.now command.now)) }
 {
     put_command_words(out, labels, command)?;
     put(out, b"\n")
 }
 
 fn put_command_words(out: &mut Vec<u8>, labels: &[Label], command: &Command) -> Result<(), NoMemory>
-    ensures { OnOk result (out.new.items ≡ out.old.items ++ spaced (command_words labels.now command.now)) }
+    ensures { OnOk result (out.new.items
+        ≡ out.old.items ++ spaced (command_words labels.now command.now)) }
 {
     match command {
         Command::W { addr, bytes } => {
@@ -135,7 +143,8 @@ fn put_command_words(out: &mut Vec<u8>, labels: &[Label], command: &Command) -> 
 }
 
 fn put_jump(out: &mut Vec<u8>, word: &[u8], labels: &[Label], place: u16) -> Result<(), NoMemory>
-    ensures { OnOk result (out.new.items ≡ out.old.items ++ (word.now ++ label_name labels.now place)) }
+    ensures { OnOk result (out.new.items
+        ≡ out.old.items ++ (word.now ++ label_name labels.now place)) }
 {
     put(out, word)?;
     match labels.get(place as usize) {
@@ -154,7 +163,8 @@ fn put_mode(out: &mut Vec<u8>, mode: Mode) -> Result<(), NoMemory>
 }
 
 fn put_starts(out: &mut Vec<u8>, programs: &[Program], starts: &[Start]) -> Result<(), NoMemory>
-    ensures { OnOk result (out.new.items ≡ out.old.items ++ lines_text (map (start_words programs.now) starts.now)) }
+    ensures { OnOk result (out.new.items
+        ≡ out.old.items ++ lines_text (map (start_words programs.now) starts.now)) }
 {
     for start in starts {
         put_start(out, programs, *start)?;
@@ -163,7 +173,8 @@ fn put_starts(out: &mut Vec<u8>, programs: &[Program], starts: &[Start]) -> Resu
 }
 
 fn put_start(out: &mut Vec<u8>, programs: &[Program], start: Start) -> Result<(), NoMemory>
-    ensures { OnOk result (out.new.items ≡ out.old.items ++ line_text (start_words programs.now start)) }
+    ensures { OnOk result (out.new.items
+        ≡ out.old.items ++ line_text (start_words programs.now start)) }
 {
     put(out, b"domain ")?;
     put_program_name(out, programs, start.program)?;
@@ -173,7 +184,8 @@ fn put_start(out: &mut Vec<u8>, programs: &[Program], start: Start) -> Result<()
 }
 
 fn put_program_name(out: &mut Vec<u8>, programs: &[Program], place: u8) -> Result<(), NoMemory>
-    ensures { OnOk result (out.new.items ≡ out.old.items ++ name_of_program (slice_get programs.now place)) }
+    ensures { OnOk result (out.new.items
+        ≡ out.old.items ++ name_of_program (slice_get programs.now place)) }
 {
     match programs.get(place as usize) {
         None => Ok(()),
@@ -182,7 +194,8 @@ fn put_program_name(out: &mut Vec<u8>, programs: &[Program], place: u8) -> Resul
 }
 
 fn put_turns(out: &mut Vec<u8>, turns: &[Actor]) -> Result<(), NoMemory>
-    ensures { OnOk result (out.new.items ≡ out.old.items ++ lines_text (map turns_words (turn_groups turns.now))) }
+    ensures { OnOk result (out.new.items
+        ≡ out.old.items ++ lines_text (map turns_words (turn_groups turns.now))) }
 {
     let mut rest = turns;
     'groups: while !rest.is_empty() {

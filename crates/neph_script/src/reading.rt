@@ -64,7 +64,8 @@ fn first_line(text: &[u8]) -> (&[u8], &[u8])
 
 // What stands before the first place of a byte, and what stands behind it.
 fn halves(text: &[u8], mark: u8) -> Option<(&[u8], &[u8])>
-    ensures found { IfSome result (λ cut. parts_at mark text.now ≡ cut.0.now ∷ parts_at mark cut.1.now) }
+    ensures found { IfSome result (λ cut. parts_at mark text.now
+        ≡ cut.0.now ∷ parts_at mark cut.1.now) }
     ensures none { IfNone result (parts_at mark text.now ≡ text.now ∷ []) }
     ensures shorter { IfSome result (λ cut. length cut.1.now < length text.now) }
 {

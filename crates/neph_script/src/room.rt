@@ -32,7 +32,8 @@ pub fn start_frames(start: Start) -> u32
     pages + 1 + (pages + 511) / 512
 }
 
-/// Whether the frames are enough for all domains and their clones, or for 63 domains of the greatest kind.
+/// Whether the frames are enough for all domains and their clones, or for 63 domains of the
+/// greatest kind.
 pub fn has_room(frames: u32, programs: &[Program], starts: &[Start], start: Start) -> bool
     requires programs { AreSmall programs.now }
     requires sized { AreSized starts.now }

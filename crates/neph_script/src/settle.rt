@@ -14,7 +14,8 @@ impl Draft {
     /// The commands, each jump with the place of its label.
     pub fn settled(&self, alloc: Global) -> Result<Vec<Command>, LineEnd>
         requires { IsDraft self.now }
-        ensures { Shows (λ v. v.items) result (settled self.now.labels.items 0 self.now.said.items) }
+        ensures { Shows (λ v. v.items) result
+            (settled self.now.labels.items 0 self.now.said.items) }
     {
         let mut commands = Vec::with_capacity(alloc, self.said.len())?;
         for (line, said) in self.said.iter().enumerate() {
@@ -47,7 +48,8 @@ impl Draft {
     // The place of a label that stands behind a line.
     fn ahead(&self, line: u16, target: &[u8]) -> Result<u16, Why>
         requires { IsDraft self.now }
-        ensures { result ≡ ahead self.now.labels.items line (label_place self.now.labels.items target.now) }
+        ensures { result ≡ ahead self.now.labels.items line
+            (label_place self.now.labels.items target.now) }
     {
         let Some(place) = self.places.place(target) else {
             return Err(Why::Label);

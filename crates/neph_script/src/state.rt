@@ -92,7 +92,8 @@ impl Draft {
     fn add_command(&mut self, said: Said) -> Result<(), NoMemory>
         requires sound { IsDraft self.old }
         requires few { length self.old.said.items < 512 }
-        ensures now { OnOk result (seen_draft self.new ≡ record (seen_draft self.old) { said = self.old.said.items ++ said ∷ [] }) }
+        ensures now { OnOk result (seen_draft self.new
+            ≡ record (seen_draft self.old) { said = self.old.said.items ++ said ∷ [] }) }
         ensures sound { OnOk result (IsDraft self.new) }
     {
         self.said.push(said)?;
@@ -102,7 +103,11 @@ impl Draft {
     fn add_label(&mut self, alloc: Global, name: Name) -> Result<(), NoMemory>
         requires sound { IsDraft self.old }
         requires few { length self.old.labels.items < 512 }
-        ensures now { OnOk result (seen_draft self.new ≡ record (seen_draft self.old) { labels = self.old.labels.items ++ record { name = name; at = length self.old.said.items } ∷ [] }) }
+        ensures now { OnOk result (seen_draft self.new
+            ≡ record (seen_draft self.old) {
+              labels = self.old.labels.items
+                  ++ record { name = name; at = length self.old.said.items } ∷ [];
+            }) }
         ensures sound { OnOk result (IsDraft self.new) }
     {
         let at = self.said.len() as u16;

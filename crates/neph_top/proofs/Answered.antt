@@ -11,6 +11,7 @@ use Rattle.neph_runs.proofs.OneRun.{one_run}
 use Rattle.neph_runs.proofs.Runs as runs
 use Rattle.neph_runs.proofs.Lasting as lasting
 use Rattle.neph_runs.proofs.Legally as legally
+use Rattle.neph_runs.proofs.Copies as copies
 use Rattle.neph_core.specs.Course.{Course}
 use Rattle.neph_core.specs.Plays.{Plays}
 use Rattle.neph_script.specs.declared.why.BadScript.{BadScript}
@@ -31,6 +32,7 @@ transcribes s c stalled text formed p is =
       text_is = is ∙ ap (λ (h : List Noted). transcript s h (counts c.script c.state) stalled) (sym p.entries) ∙ ap (λ (x : Script). transcript s p.ran.history (counts x c.state) stalled) p.script
           ∙ ap (λ (x : State). transcript s p.ran.history (counts s x) stalled) (sym p.last) ∙ ap (transcript s p.ran.history (counts s p.ran.last)) (sym p.ended);
       legal = legally.runs_legally s p.ran formed p.run;
+      copies = copies.runs_bear_copies s p.ran formed p.run;
       over = over.1;
       ended = over.0;
       sum = lasting.counts_add_up s p.ran formed p.run;

@@ -14,6 +14,7 @@ use Rattle.neph_model.specs.Frames.{AddsUp}
 use Rattle.neph_model.specs.Books.{counts}
 use Rattle.neph_model.specs.Run.{Ran, IsRun}
 use Rattle.neph_model.specs.Legal.{Legal}
+use Rattle.neph_model.specs.Laws.{BearsCopies}
 use Rattle.neph_model.specs.Transcript.{transcript}
 use Rattle.neph_top.specs.declared.status.Status.{Status}
 use Rattle.neph_top.specs.declared.status.Status.TheVariants.{Ended, Refused, TooLong, NoMemory, ReadFault, WriteFault}
@@ -22,17 +23,22 @@ use Rattle.neph_top.specs.declared.status.Status.TheVariants.{Ended, Refused, To
 abbrev pub run_text : Script → Ran → List ℕ
 run_text s r = transcript s r.history (counts s r.last) r.stalled
 
--- The text is the transcript of the script's run. Its history is a legal one, from the script's start to the last machine, where no domain is live; and the frames that are used and those that are free are all.
+-- The text is the transcript of the script's run. Its history is a legal one, from the script's
+-- start to the last machine, where no domain is live; each commit in it leaves the child as the
+-- listed copy of its parent at that place; and the frames that are used and those that are free are
+-- all.
 pub record Transcribes (s : Script) (text : List ℕ) : Type 0 where
   pub ran : Ran
   pub run : IsRun s ran
   pub text_is : text ≡ run_text s ran
   pub legal : Legal s (start_machine s) ran.history ran.last.machine
+  pub copies : BearsCopies s (start_machine s) ran.history
   pub over : is_over ran.last.machine ≡ true
   pub ended : ran.stalled ≡ false
   pub sum : AddsUp (counts s ran.last)
 
--- The text is the transcript of the run of the script that the bytes spell, and there is no other such text.
+-- The text is the transcript of the run of the script that the bytes spell, and there is no other
+-- such text.
 pub record IsTranscript (bytes text : List ℕ) : Type 0 where
   pub script : Script
   pub spelled : Spells bytes script
@@ -41,7 +47,8 @@ pub record IsTranscript (bytes text : List ℕ) : Type 0 where
 
 -- the text that names the first line that can't stand, and why
 abbrev pub refusal_text : BadScript → List ℕ
-refusal_text bad = codes "script " ++ decimal bad.line ++ codes " " ++ kind_word bad.why ++ codes "\n"
+refusal_text bad = codes "script " ++ decimal bad.line ++ codes " " ++ kind_word bad.why
+    ++ codes "\n"
 
 -- no script is spelled
 abbrev pub SpellsNone : List ℕ → Type 0
@@ -64,7 +71,8 @@ too_long_text = codes "too long\n"
 abbrev pub usage_text : List ℕ
 usage_text = codes "usage: nephele run or race N or gen SEED DOMAINS LINES\n"
 
--- what a call saw: the bytes that its source had left before and after it, those that its sink had taken, and how often each had failed
+-- what a call saw: the bytes that its source had left before and after it, those that its sink had
+-- taken, and how often each had failed
 pub record Seen : Type 0 where
   pub left : Option (List ℕ)
   pub rest : Option (List ℕ)
@@ -75,9 +83,21 @@ pub record Seen : Type 0 where
   pub write_before : ℕ
   pub write_now : ℕ
 
-abbrev pub saw : Option (List ℕ) → Option (List ℕ) → Option (List ℕ) → Option (List ℕ) → ℕ → ℕ → ℕ → ℕ → Seen
-saw left rest old new read_before read_now write_before write_now =
-    record { left = left; rest = rest; old = old; new = new; read_before = read_before; read_now = read_now; write_before = write_before; write_now = write_now }
+-- the same by a source, of which these tell what it has left and how often it failed, before and
+-- after; and by a sink, of which those tell what it took
+abbrev pub saw : {Source Sink : Type 0} → (Source → Option (List ℕ)) → (Source → ℕ) → Source
+    → Source → (Sink → Option (List ℕ)) → (Sink → ℕ) → Sink → Sink → Seen
+saw left read_faults source source_now taken write_faults sink sink_now =
+    record {
+      left = left source;
+      rest = left source_now;
+      old = taken sink;
+      new = taken sink_now;
+      read_before = read_faults source;
+      read_now = read_faults source_now;
+      write_before = write_faults sink;
+      write_now = write_faults sink_now;
+    }
 
 -- neither the source nor the sink failed
 pub record NoFault (c : Seen) : Type 0 where
@@ -89,7 +109,8 @@ pub record WritesNothing (c : Seen) : Type 0 where
   pub taken : Appends c.old c.new []
   pub write : c.write_now ≡ c.write_before
 
--- These are the bytes that the source had left, where it tells them; they are no more than a script may have, and were read to their end.
+-- These are the bytes that the source had left, where it tells them; they are no more than a script
+-- may have, and were read to their end.
 pub record Reads (c : Seen) (bytes : List ℕ) : Type 0 where
   pub left : IfSome c.left (λ b. bytes ≡ b)
   pub few : length bytes ≤ limit
@@ -104,7 +125,8 @@ pub record WritesTranscript (c : Seen) : Type 0 where
   pub taken : Appends c.old c.new text
   pub faults : NoFault c
 
--- the bytes read spell no script, and the sink took their first line that can't stand, with its kind
+-- the bytes read spell no script, and the sink took their first line that can't stand, with its
+-- kind
 pub record WritesRefusal (c : Seen) : Type 0 where
   pub bytes : List ℕ
   pub read : Reads c bytes
@@ -129,7 +151,8 @@ pub record FailsToRead (c : Seen) : Type 0 where
   pub nothing : WritesNothing c
   pub rose : Rose c.read_before c.read_now
 
--- what was read is answered by this text: by its transcript, by its first line that can't stand, or as too long
+-- what was read is answered by this text: by its transcript, by its first line that can't stand, or
+-- as too long
 abbrev pub IsAnswer : Seen → List ℕ → Type 0
 IsAnswer c text =
     ((bytes : List ℕ) × Reads c bytes × (IsTranscript bytes text ⊎ IsRefusal bytes text))
@@ -170,9 +193,14 @@ pub record AnswersRun (c : Seen) (answer : ℕ) : Type 0 where
   pub write : answer ≡ 7 → FailsToWrite c
   pub one : (answer ≡ 0) ⊎ (answer ≡ 4) ⊎ (answer ≡ 5) ⊎ (answer ≡ 6) ⊎ (answer ≡ 7)
   -- where a script is spelled and neither count rose, its transcript is written, or memory ran out
-  pub complete : ¬ (Rose c.read_before c.read_now) → ¬ (Rose c.write_before c.write_now) → IfSome c.left (λ bytes. length bytes ≤ limit → (s : Script) → Spells bytes s → (answer ≡ 0) ⊎ (answer ≡ 5))
-  -- where none is spelled or the source gives too much, and neither count rose, that is written, or memory ran out
-  pub complete_refused : ¬ (Rose c.read_before c.read_now) → ¬ (Rose c.write_before c.write_now) → IfSome c.left (λ bytes. SpellsNone bytes ⊎ (limit < length bytes) → (answer ≡ 4) ⊎ (answer ≡ 5))
+  pub complete : ¬ (Rose c.read_before c.read_now) → ¬ (Rose c.write_before c.write_now)
+      → IfSome c.left (λ bytes. length bytes ≤ limit → (s : Script) → Spells bytes s
+      → (answer ≡ 0) ⊎ (answer ≡ 5))
+  -- where none is spelled or the source gives too much, and neither count rose, that is written, or
+  -- memory ran out
+  pub complete_refused : ¬ (Rose c.read_before c.read_now) → ¬ (Rose c.write_before c.write_now)
+      → IfSome c.left (λ bytes. SpellsNone bytes ⊎ (limit < length bytes)
+      → (answer ≡ 4) ⊎ (answer ≡ 5))
 
 -- the usage line was written, and nothing was read
 pub record WritesUsage (c : Seen) : Type 0 where
@@ -187,9 +215,12 @@ pub record FailsToTellUsage (c : Seen) : Type 0 where
 
 -- the number that a call with words of no form answers
 abbrev pub AnswersUsage : Seen → ℕ → Type 0
-AnswersUsage c answer = (c.rest ≡ c.left) × (((answer ≡ 2) × WritesUsage c) ⊎ ((answer ≡ 7) × FailsToTellUsage c))
+AnswersUsage c answer = (c.rest ≡ c.left)
+    × (((answer ≡ 2) × WritesUsage c) ⊎ ((answer ≡ 7) × FailsToTellUsage c))
 
--- all of a text was written, and the status is the one given; or some front of it, and the sink failed
+-- all of a text was written, and the status is the one given; or some front of it, and the sink
+-- failed
 abbrev pub Tells : Option (List ℕ) → Option (List ℕ) → List ℕ → ℕ → ℕ → Status → Status → Type 0
 Tells old new text before now status answer =
-    ((answer ≡ status) × Appends old new text × (now ≡ before)) ⊎ ((answer ≡ WriteFault) × AppendsFront old new text × Rose before now)
+    ((answer ≡ status) × Appends old new text × (now ≡ before))
+    ⊎ ((answer ≡ WriteFault) × AppendsFront old new text × Rose before now)

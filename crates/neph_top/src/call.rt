@@ -18,7 +18,8 @@ const LIMIT: u32 = 1_048_576;
 
 /// Reads a script, runs it by turns, and writes its transcript.
 pub fn call<S: Source, K: Sink>(alloc: Global, source: &mut S, sink: &mut K) -> Status
-    ensures { Called (saw (S.left source.old) (S.left source.new) (K.taken sink.old) (K.taken sink.new) (S.faults source.old) (S.faults source.new) (K.faults sink.old) (K.faults sink.new)) result }
+    ensures { Called
+        (saw S.left S.faults source.old source.new K.taken K.faults sink.old sink.new) result }
 {
     let bytes = match read_all(alloc, source, LIMIT) {
         Ok(bytes) => bytes,
@@ -69,7 +70,8 @@ fn text_of(alloc: Global, script: &Script) -> Result<Vec<u8>, NoMemory>
 
 // Writes a text, and answers this status where the sink took all of it.
 fn told<K: Sink>(sink: &mut K, text: &[u8], status: Status) -> Status
-    ensures { Tells (K.taken sink.old) (K.taken sink.new) text.now (K.faults sink.old) (K.faults sink.new) status result }
+    ensures { Tells (K.taken sink.old) (K.taken sink.new) text.now (K.faults sink.old)
+        (K.faults sink.new) status result }
 {
     match write_all(sink, text) {
         Ok(()) => status,

@@ -2,9 +2,11 @@
 #![tactic(auto)]
 
 mod call;
+mod process;
 mod run;
 mod status;
 #[cfg(test)]
 mod tests;
 
+pub use process::exit_code;
 pub use run::{run_call, top};

@@ -10,16 +10,21 @@ use std::alloc::Global;
 use std::sync::Wait;
 use std::thread::Threads;
 
-/// Reads a script from the source, runs it by turns, writes its transcript to the sink, and answers the status: 0 for a transcript, 4 for what is no script, 5 for want of memory, 6 and 7 for a fault of the source and of the sink.
+/// Reads a script from the source, runs it by turns, writes its transcript to the sink, and answers
+/// the status: 0 for a transcript, 4 for what is no script, 5 for want of memory, 6 and 7 for a
+/// fault of the source and of the sink.
 pub fn run_call<S: Source, K: Sink>(alloc: Global, source: &mut S, sink: &mut K) -> u8
-    // With 0 the transcript written is the one that the plain machine's run of the script read gives.
-    ensures { AnswersRun (saw (S.left source.old) (S.left source.new) (K.taken sink.old) (K.taken sink.new) (S.faults source.old) (S.faults source.new) (K.faults sink.old) (K.faults sink.new)) result }
+    // With 0 the transcript written is the one that the plain machine's run of the script read
+    // gives.
+    ensures { AnswersRun
+        (saw S.left S.faults source.old source.new K.taken K.faults sink.old sink.new) result }
 {
     let status = call(alloc, source, sink);
     number(status)
 }
 
-/// Does what the words behind the program's name ask for. The one word `run` runs the script that the source gives. With other words the usage line is written, with status 2.
+/// Does what the words behind the program's name ask for. The one word `run` runs the script that
+/// the source gives. With other words the usage line is written, with status 2.
 pub fn top<R: Threads + Wait + Sync, S: Source, K: Sink>(
     alloc: Global,
     _rt: &R,
@@ -27,8 +32,10 @@ pub fn top<R: Threads + Wait + Sync, S: Source, K: Sink>(
     source: &mut S,
     sink: &mut K,
 ) -> u8
-    ensures run { map string_bytes words.now ≡ codes "run" ∷ [] → AnswersRun (saw (S.left source.old) (S.left source.new) (K.taken sink.old) (K.taken sink.new) (S.faults source.old) (S.faults source.new) (K.faults sink.old) (K.faults sink.new)) result }
-    ensures other_words { map string_bytes words.now ≢ codes "run" ∷ [] → AnswersUsage (saw (S.left source.old) (S.left source.new) (K.taken sink.old) (K.taken sink.new) (S.faults source.old) (S.faults source.new) (K.faults sink.old) (K.faults sink.new)) result }
+    ensures run { map string_bytes words.now ≡ codes "run" ∷ [] → AnswersRun
+        (saw S.left S.faults source.old source.new K.taken K.faults sink.old sink.new) result }
+    ensures other_words { map string_bytes words.now ≢ codes "run" ∷ [] → AnswersUsage
+        (saw S.left S.faults source.old source.new K.taken K.faults sink.old sink.new) result }
 {
     if wants_run(words) {
         return run_call(alloc, source, sink);
