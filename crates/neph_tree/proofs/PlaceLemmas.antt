@@ -1,11 +1,11 @@
 -- What stands behind a front.
-use Rattle.std.proofs.Common.{◌≡◌, ◌≢◌, ◌⊎◌, inl, inr, ℕ, zero, suc, ◌+◌, ◌<◌, ◌≤◌, Bool, true, false, cond, ◌&&◌, ◌||◌, List, [], ◌∷◌, ◌++◌, length, take, drop, Option, Some, None, is_some, IsTrue, Bor, refl, sym, ap, ◌∙◌, arith, append_assoc, length-append}
+use Rattle.std.proofs.Common.{◌≡◌, ℕ, ◌+◌, Bool, true, false, cond, ◌&&◌, List, [], ◌∷◌, ◌++◌, length, take, drop, Option, Some, None, Bor, refl, sym, ap, ◌∙◌}
 use Rattle.std.specs.Prelude.{nat_eq, ◌==◌}
 use Rattle.std.specs.Option.{option_and_then, option_copied, MatchOption}
 use Rattle.std.proofs.lemmas.Bool.{eqb-true}
 use Rattle.std.specs.Cmp.Lexicographic.{pointwise}
 use Rattle.neph_base.specs.Path.{slash}
-use Rattle.neph_tree.specs.Places.{root, behind, front_of_children, rest_below, is_within}
+use Rattle.neph_tree.specs.Places.{behind, rest_below}
 
 pub behind-cond : (p s : List ℕ) → behind p s ≡ cond (pointwise nat_eq (take (length p) s) p) (Some (drop (length p) s)) None
 behind-cond [] s = refl

@@ -1,19 +1,18 @@
 -- What keeps the store a tree.
-use Rattle.std.proofs.Common.{◌≡◌, ◌⊎◌, inl, inr, ℕ, ◌+◌, ◌<◌, ◌≤◌, Bool, true, false, cond, List, [], ◌∷◌, ◌++◌, length, Option, Some, None, is_some, IsTrue, refl, sym, ap, ◌∙◌, subst, arith}
+use Rattle.std.proofs.Common.{◌≡◌, ◌⊎◌, inl, inr, ℕ, ◌+◌, Bool, true, false, cond, List, [], ◌∷◌, Option, Some, None, is_some, refl, sym, ap, ◌∙◌, subst}
 use Rattle.std.specs.Prelude.{not, nat_lt, Result, Ok, Err, OnOk, OnErr}
 use Rattle.neph_tree.specs.Refusals.{is_over}
 use Rattle.neph_tree.specs.declared.refusals.TheConstants.{DOMAIN_NODES}
 use Rattle.std.specs.Ordering.{eq_by_cmp}
-use Rattle.std.specs.Cmp.{eq_by_cmp_equiv}
 use Rattle.std.specs.Cmp.Lexicographic.{nat_list_cmp_total}
-use Rattle.std.specs.FinMap.{FinMap, get, contains_key, insert, empty, len, retain_keys, get-insert, get-empty, len-insert}
+use Rattle.std.specs.FinMap.{get, contains_key, insert, empty, len, get-insert, get-empty, len-insert}
 use Rattle.neph_base.specs.Path.{is_path}
 use Rattle.neph_tree.specs.Places.{is_within, ancestors}
 use Rattle.neph_tree.specs.Nodes.{Nodes, IsTree, with_missing, with_each_missing, with_node, with_nodes, without, subtree}
 use Rattle.neph_tree.specs.Growth.{with_path, with_paths, with_values, ArePaths, HasEach}
 use Rattle.neph_tree.proofs.EntryLemmas.{order, same_nodes, get-where}
-use Rattle.neph_tree.proofs.Within.{IsIn, within_self, within_same, within_trans, ancestor_has, ancestor_within}
-use Rattle.neph_tree.proofs.GrowthLemmas.{insert_elsewhere, insert_there, tied_same}
+use Rattle.neph_tree.proofs.Within.{IsIn, within_trans, ancestor_has, ancestor_within}
+use Rattle.neph_tree.proofs.GrowthLemmas.{insert_there, tied_same}
 
 pub insert_has : (m : Nodes) (k v q : List ℕ) → contains_key (insert m k v) q ≡ true → (q ≡ k) ⊎ (contains_key m q ≡ true)
 insert_has m k v q h = by (eq_by_cmp order q k) refl where

@@ -1,5 +1,5 @@
 -- What a growing tree has that it hadn't.
-use Rattle.std.specs.Prelude.{◌≡◌, ◌≤◌, [], ◌∷◌, ℕ, Bool, true, false, List, Option, Some, None, IsTrue, length, take, if◌then◌else◌}
+use Rattle.std.specs.Prelude.{◌≡◌, ◌≤◌, [], ◌∷◌, ℕ, true, false, List, Option, Some, None, IsTrue, length, take, if◌then◌else◌}
 use Rattle.std.specs.FinMap.{get, contains_key, insert}
 use Rattle.neph_base.specs.Path.{is_path}
 use Rattle.neph_tree.specs.Places.{is_within, ancestors}

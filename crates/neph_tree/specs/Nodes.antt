@@ -1,5 +1,5 @@
 -- The nodes of the store: a finite map from path to value, in byte order of the paths.
-use Rattle.std.specs.Prelude.{◌≡◌, ◌∷◌, [], ℕ, not, List, IsTrue, if◌then◌else◌}
+use Rattle.std.specs.Prelude.{◌∷◌, [], ℕ, not, List, IsTrue, if◌then◌else◌}
 use Rattle.std.specs.List.{filter_map}
 use Rattle.std.specs.Ordering.{nat_cmp}
 use Rattle.std.specs.Cmp.Lexicographic.{slice_cmp}

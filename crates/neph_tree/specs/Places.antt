@@ -1,5 +1,5 @@
 -- Where a path stands below another, and the paths of the domains.
-use Rattle.std.specs.Prelude.{◌≡◌, ◌==◌, ◌&&◌, ◌||◌, ◌∷◌, ◌++◌, ◌+◌, ◌/◌, ◌%◌, [], ℕ, Bool, true, false, not, List, Option, Some, None, length, map, is_some, nat_lt, nat_eq, codes, if◌then◌else◌}
+use Rattle.std.specs.Prelude.{◌==◌, ◌&&◌, ◌||◌, ◌∷◌, ◌++◌, ◌+◌, ◌/◌, ◌%◌, [], ℕ, Bool, not, List, Option, Some, None, length, map, is_some, nat_lt, nat_eq, codes, if◌then◌else◌}
 use Rattle.std.specs.List.{list_all, join_with_byte}
 use Rattle.std.specs.Cmp.Lexicographic.{pointwise}
 use Rattle.neph_base.specs.Path.{slash}

@@ -1,5 +1,5 @@
 -- Why a domain may not change the store.
-use Rattle.std.specs.Prelude.{ℕ, Bool, not, List, Option, Some, None, length, nat_lt, if◌then◌else◌}
+use Rattle.std.specs.Prelude.{ℕ, Bool, not, List, Option, Some, None, nat_lt, if◌then◌else◌}
 use Rattle.std.specs.FinMap.{contains_key, len}
 use Rattle.neph_tree.specs.Places.{is_within, home}
 use Rattle.neph_tree.specs.Nodes.{Nodes, subtree, with_node}

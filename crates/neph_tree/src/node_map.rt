@@ -1,11 +1,15 @@
 // A finite map from byte strings, in their order.
-ghost use Rattle.std.specs.Prelude.{◌≡◌, [], true, IfOk, OnOk, OnErr, slice_get};
+ghost use Rattle.std.specs.Prelude.{◌≡◌, ◌≢◌, ◌++◌, ◌∷◌, [], true, length, IfOk, OnOk, OnErr, slice_get};
 ghost use Rattle.std.specs.Option.{option_copied, option_map};
+ghost use Rattle.std.specs.Ordering.{nat_cmp};
+ghost use Rattle.std.specs.Cmp.Lexicographic.{slice_cmp};
+ghost use Rattle.std.specs.List.Sorted.{IsStrictlySortedBy};
 ghost use Rattle.std.specs.FinMap as map;
+ghost use Rattle.neph_tree.specs.Entries.{entry_at};
 ghost use Rattle.neph_tree.specs.Nodes.{subtree, child_names, without};
 
 use crate::places::{child_name, is_within};
-use neph_base::{Bytes, Name, Names, NoMemory};
+use neph_base::{Bytes, Name, Names, NoMemory, SLASH};
 use std::alloc::Global;
 use std::collections::BTreeMap;
 use std::marker::Model;
@@ -78,8 +82,18 @@ impl NodeMap {
         count
     }
 
-    // The nodes within `top`.
+    // The nodes within `top`, in the order of their paths.
     pub(crate) fn subtree(&self, top: &[u8]) -> Result<Vec<(Bytes, Bytes)>, NoMemory>
+        ensures { IfOk result (λ nodes. nodes.items ≡ map.entries (subtree self.now top.now)) }
+    {
+        if top.len() == 1 {
+            return self.subtree_of_all(top);
+        }
+        self.subtree_of_run(top)
+    }
+
+    // The same by a search of all nodes: all of them are within `/`.
+    fn subtree_of_all(&self, top: &[u8]) -> Result<Vec<(Bytes, Bytes)>, NoMemory>
         ensures { IfOk result (λ nodes. nodes.items ≡ map.entries (subtree self.now top.now)) }
     {
         let mut nodes = Vec::new(self.alloc);
@@ -93,9 +107,42 @@ impl NodeMap {
         Ok(nodes)
     }
 
+    // The same of a longer path: the node itself, and the run of the nodes below it.
+    fn subtree_of_run(&self, top: &[u8]) -> Result<Vec<(Bytes, Bytes)>, NoMemory>
+        requires { length top.now ≢ 1 }
+        ensures { IfOk result (λ nodes. nodes.items ≡ map.entries (subtree self.now top.now)) }
+    {
+        let mut nodes = self.node_itself(top)?;
+        let low = with_byte(self.alloc, top, SLASH)?;
+        let high = with_byte(self.alloc, top, SLASH + 1)?;
+        for (path, value) in self.entries.range(low..high) {
+            let path = Bytes::of(copy_of(self.alloc, path)?);
+            let value = Bytes::of(copy_of(self.alloc, value)?);
+            nodes.push((path, value))?;
+        }
+        Ok(nodes)
+    }
+
+    // The node itself, if it is there.
+    fn node_itself(&self, path: &[u8]) -> Result<Vec<(Bytes, Bytes)>, NoMemory>
+        ensures { IfOk result (λ nodes. nodes.items ≡ entry_at path.now (map.get self.now path.now)) }
+    {
+        let mut nodes = Vec::new(self.alloc);
+        match self.get(path) {
+            Some(value) => {
+                let path = Bytes::of(copy_of(self.alloc, path)?);
+                let value = Bytes::of(copy_of(self.alloc, value)?);
+                nodes.push((path, value))?;
+                Ok(nodes)
+            }
+            None => Ok(nodes),
+        }
+    }
+
     // The names of a directory's children.
     pub(crate) fn child_names(&self, directory: &[u8]) -> Result<Names, NoMemory>
-        ensures { IfOk result (λ names. names ≡ child_names self.now directory.now) }
+        ensures names { IfOk result (λ names. names ≡ child_names self.now directory.now) }
+        ensures order { IfOk result (λ names. IsStrictlySortedBy (slice_cmp nat_cmp) names) }
     {
         let mut names = Vec::new(self.alloc);
         for path in self.entries.keys() {
@@ -151,6 +198,15 @@ impl NodeMap {
     {
         self.entries.retain(|path, _| !is_within(top, path));
     }
+}
+
+// The text with one byte behind it.
+fn with_byte(alloc: Global, text: &[u8], byte: u8) -> Result<Vec<u8>, NoMemory>
+    ensures { IfOk result (λ longer. longer.items ≡ text.now ++ byte ∷ []) }
+{
+    let mut longer = copy_of(alloc, text)?;
+    longer.push(byte)?;
+    Ok(longer)
 }
 
 // The bytes, in memory of their own.

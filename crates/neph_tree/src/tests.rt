@@ -57,7 +57,7 @@ fn nodes_in_order(rt: HostRuntime) -> Result<(), Fail> {
     Ok(())
 }
 
-// 256 nodes and one more.
+// 256 nodes and one more, and a value that is replaced in the full home.
 #[test]
 fn largest_home(rt: HostRuntime) -> Result<(), Fail> {
     let alloc = rt.alloc();
@@ -72,5 +72,9 @@ fn largest_home(rt: HostRuntime) -> Result<(), Fail> {
         };
         assert!(rt; written(alloc, &mut t, one, &text)? == Some(answer));
     }
+    let path = Path::new(alloc, "/local/domain/1/n7")?.ok_or("path")?;
+    assert!(rt; t.write(one, &path, b"2") == Ok(()));
+    assert!(rt; t.read(&path) == Some(b"2".as_slice()));
+    assert_eq!(rt; t.nodes(), 259);
     Ok(())
 }

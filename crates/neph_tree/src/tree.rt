@@ -1,6 +1,9 @@
 // The store's tree.
-ghost use Rattle.std.specs.Prelude.{◌≡◌, ◌⊎◌, ◌≤◌, Some, None, IsTrue, IfOk, IfErr, OnOk, OnErr, length, slice_get, if◌then◌else◌};
+ghost use Rattle.std.specs.Prelude.{◌≡◌, ◌⊎◌, ◌≤◌, Some, None, IsTrue, IfOk, IfErr, IfSome, OnOk, OnErr, length, slice_get, if◌then◌else◌};
 ghost use Rattle.std.specs.Option.{option_copied};
+ghost use Rattle.std.specs.Ordering.{nat_cmp};
+ghost use Rattle.std.specs.Cmp.Lexicographic.{slice_cmp};
+ghost use Rattle.std.specs.List.Sorted.{IsStrictlySortedBy};
 ghost use Rattle.std.specs.FinMap as map;
 ghost use Rattle.neph_base.specs.Path.{is_path};
 ghost use Rattle.neph_tree.specs.Entries.{shown};
@@ -68,9 +71,11 @@ impl Tree {
 
     /// The names of a node's children in byte order, `None` exactly where there is no such node.
     pub fn list(&self, p: &Path) -> Result<Option<Names>, NoMemory>
-        ensures { IfOk result (λ names.
+        ensures names { IfOk result (λ names.
             names ≡ (if map.contains_key self.now p.now then Some (child_names self.now p.now)
             else None)) }
+        ensures order { IfOk result (λ names.
+            IfSome names (λ list. IsStrictlySortedBy (slice_cmp nat_cmp) list)) }
     {
         if !self.nodes.contains(p.bytes()) {
             return Ok(None);

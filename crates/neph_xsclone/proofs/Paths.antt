@@ -31,7 +31,7 @@ path_rest b c t rest is =
     let all : list_all is_component (parts (c ∷ t ++ slash ∷ rest)) ≡ true = and_right (b == slash) (list_all is_component (parts (c ∷ t ++ slash ∷ rest))) is in
     and_right (list_all is_component (parts (c ∷ t))) (list_all is_component (parts rest)) (sym (list_all-append is_component (parts (c ∷ t)) (parts rest)) ∙ ap (λ ps. list_all is_component ps) (sym (parts-slash (c ∷ t) rest)) ∙ all)
 
-behind_some : (front text rest : List ℕ) → behind front text ≡ Some rest → text ≡ front ++ rest
+pub behind_some : (front text rest : List ℕ) → behind front text ≡ Some rest → text ≡ front ++ rest
 behind_some front text rest h =
     let found = front_behind front text (ap is_some h) in
     let same : Some found.0 ≡ Some rest = sym (behind-front front found.0) ∙ ap (λ x. behind front x) (sym found.1) ∙ h in

@@ -5,9 +5,11 @@
 mod bytes;
 mod copies;
 mod domain;
+mod laws;
 mod start;
 #[cfg(test)]
 mod tests;
 mod value;
 
 pub use domain::{xs_clone, xs_end, xs_start};
+pub use laws::copies_node_by_node;

@@ -60,6 +60,23 @@ fn clone_of_a_domain(rt: HostRuntime) -> Result<(), Fail> {
     Ok(())
 }
 
+// A parent that took its name away.
+#[test]
+fn clone_without_a_name(rt: HostRuntime) -> Result<(), Fail> {
+    let alloc = rt.alloc();
+    let mut t = Tree::new(alloc)?;
+    let one = DomId::new(1).ok_or("id")?;
+    let two = DomId::new(2).ok_or("id")?;
+    xs_start(alloc, &mut t, one, b"web")?;
+    let name = Path::new(alloc, "/local/domain/1/name")?.ok_or("path")?;
+    assert!(rt; t.remove(one, &name).is_ok());
+    xs_clone(alloc, &mut t, one, two)?;
+    let path = Path::new(alloc, "/local/domain/2/name")?.ok_or("path")?;
+    assert!(rt; t.read(&path).is_none());
+    assert!(rt; has(alloc, &t, "/local/domain/2/domid", "2")?);
+    Ok(())
+}
+
 // An id that begins another, and values that have its digits and aren't it.
 #[test]
 fn ids_that_begin_alike(rt: HostRuntime) -> Result<(), Fail> {

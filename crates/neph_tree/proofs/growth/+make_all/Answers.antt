@@ -1,8 +1,7 @@
-use Rattle.std.proofs.Common.{◌≡◌, length, sym, ap, subst, ◌∙◌, arith}
+use Rattle.std.proofs.Common.{length, sym, ap, subst, ◌∙◌, arith}
 use Rattle.neph_base.specs.Path.{is_path}
 use Rattle.neph_tree.specs.Nodes.{Nodes, IsTree}
-use Rattle.neph_tree.specs.Entries.{shown}
-use Rattle.neph_tree.specs.Growth.{ArePaths, without_front}
+use Rattle.neph_tree.specs.Growth.{without_front}
 use Rattle.neph_tree.proofs.GrowthLemmas.{grown_back}
 use Rattle.neph_tree.proofs.TreeLemmas.{IsTree-with_path}
 use Rattle.neph_tree.proofs.growth.+make_all.Goals as goal

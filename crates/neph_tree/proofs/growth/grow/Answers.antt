@@ -1,4 +1,4 @@
-use Rattle.std.proofs.Common.{◌≡◌, ◌-◌, length, take, drop, sym, ap, ◌∙◌, arith}
+use Rattle.std.proofs.Common.{◌-◌, length, take, drop, ◌∙◌}
 use Rattle.neph_tree.proofs.GrowthLemmas.{first_at, step_at, skip_at, path_text}
 use Rattle.neph_tree.proofs.growth.grow.Goals as goal
 use Rattle.neph_tree.proofs.growth.grow.Goals.{then-b-eq-SLASH+in_ok-make_front-2, else-b-eq-SLASH}

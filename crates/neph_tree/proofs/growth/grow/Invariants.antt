@@ -1,4 +1,4 @@
-use Rattle.std.proofs.Common.{◌≡◌, ◌+◌, ◌∷◌, map, take, length}
+use Rattle.std.proofs.Common.{◌≡◌, ◌+◌, ◌∷◌, map, take}
 use Rattle.neph_base.specs.Path.{slash}
 use Rattle.neph_tree.specs.Places.{root, cuts}
 use Rattle.neph_tree.specs.Nodes.{with_each_missing}

@@ -1,7 +1,7 @@
-use Rattle.std.proofs.Common.{◌≡◌, ℕ, Option, List, length, sym, ap, subst, ◌∙◌}
+use Rattle.std.proofs.Common.{ℕ, Option, sym, subst}
 use Rattle.std.specs.FinMap.{insert}
 use Rattle.neph_tree.specs.Nodes.{Nodes}
-use Rattle.neph_tree.specs.Growth.{first_made, IsGrown, IsMade}
+use Rattle.neph_tree.specs.Growth.{IsMade}
 use Rattle.neph_tree.proofs.GrowthLemmas.{grown_last}
 use Rattle.neph_tree.proofs.growth.grow_and_set.Goals as goal
 

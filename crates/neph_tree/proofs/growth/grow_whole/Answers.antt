@@ -1,4 +1,3 @@
-use Rattle.std.proofs.Common.{length, ◌∙◌}
 use Rattle.neph_tree.proofs.GrowthLemmas.{grown_whole}
 use Rattle.neph_tree.proofs.growth.grow_whole.Goals as goal
 

@@ -1,4 +1,4 @@
-use Rattle.std.proofs.Common.{◌≡◌, length, sym, ap, ◌∙◌}
+use Rattle.std.proofs.Common.{length, ◌∙◌}
 use Rattle.neph_tree.proofs.GrowthLemmas.{grown_back}
 use Rattle.neph_tree.proofs.growth.put.Goals as goal
 

@@ -1,11 +1,13 @@
-use Rattle.std.proofs.Common.{◌≡◌, ℕ, List, [], ◌∷◌, ◌++◌, map, refl, sym, ap, ◌∙◌}
+use Rattle.std.proofs.Common.{◌≡◌, ℕ, List, [], ◌∷◌, ◌++◌, map, refl, sym, ap, ◌∙◌, subst}
 use Rattle.std.proofs.lemmas.List.{append-nil}
 use Rattle.std.specs.Prelude.{Vec}
 use Rattle.std.specs.FinMap.{entries}
 use Rattle.std.specs.List.{filter_map}
 use Rattle.neph_tree.specs.Places.{child_name}
 use Rattle.neph_tree.specs.Entries.{shown}
-use Rattle.neph_tree.proofs.EntryLemmas.{entries-shown}
+use Rattle.neph_tree.proofs.EntryLemmas.{order, entries-shown, sorted-shown}
+use Rattle.neph_tree.proofs.OrderLemmas.{sorted_names}
+use Rattle.std.specs.List.Sorted.{IsStrictlySortedBy}
 use Rattle.neph_tree.proofs.node_map.NodeMap.child_names.Goals as goal
 
 keys_twice : {A : Type 0} (es : List (Vec ℕ A × Vec ℕ A)) → map (λ e. e.0) (shown es) ≡ map (λ e. e.0.items) es
@@ -22,9 +24,18 @@ loop-path-init c =
     ∙ ap (λ ks. filter_map (λ k. child_name c.args.directory.now k) (map (λ k. k.items) ks)) (c.into_iter-path-iterator.ensures.into_iter_gives ∙ c.keys-path-items.ensures.rest)
     ∙ ap (λ ks. filter_map (λ k. child_name c.args.directory.now k) ks) (keys_apart c.self.inside.entries.entries)
 
-pub returns : goal.returns
-returns c =
+pub returns-clause-names : goal.returns-clause-names
+returns-clause-names c =
     let es = c.self.inside.entries.entries in
     let names = filter_map (λ k. child_name c.args.directory.now k) in
     let done : c.loop-path.names.items ++ [] ≡ names (map (λ e. e.0.items) es) = ap (λ left. c.loop-path.names.items ++ names (map (λ k. k.items) left)) (sym c.in-None.ensures.steps.0) ∙ c.loop-path.invariant in
     c.of-2.ensures ∙ sym (append-nil _) ∙ done ∙ ap names (sym (keys_twice es)) ∙ ap (λ all. names (map (λ e. e.0) all)) (sym (entries-shown es c.keys-path-items.ensures.ordered) ∙ ap (λ m. entries m) c.self.view_is)
+
+pub returns-clause-order : goal.returns-clause-order
+returns-clause-order c =
+    let es = c.self.inside.entries.entries in
+    let names = filter_map (λ k. child_name c.args.directory.now k) in
+    let done : c.loop-path.names.items ++ [] ≡ names (map (λ e. e.0.items) es) = ap (λ left. c.loop-path.names.items ++ names (map (λ k. k.items) left)) (sym c.in-None.ensures.steps.0) ∙ c.loop-path.invariant in
+    let same = c.of-2.ensures ∙ sym (append-nil _) ∙ done ∙ ap names (sym (keys_twice es)) in
+    let Sorted : List (List ℕ) → Type 0 = λ ns. IsStrictlySortedBy order ns in
+    subst Sorted (sym same) (sorted_names c.args.directory.now (shown es) (sorted-shown es c.keys-path-items.ensures.ordered))

@@ -1,7 +1,6 @@
-use Rattle.std.proofs.Common.{◌≡◌, ◌+◌, ◌++◌, map, length}
-use Rattle.std.specs.List.{filter, filter_map}
-use Rattle.neph_tree.specs.Places.{is_within, child_name}
-use Rattle.neph_tree.specs.Entries.{shown}
+use Rattle.std.proofs.Common.{◌≡◌, ◌++◌, map}
+use Rattle.std.specs.List.{filter_map}
+use Rattle.neph_tree.specs.Places.{child_name}
 use Rattle.neph_tree.proofs.node_map.NodeMap.child_names.Given as goal
 
 abbrev pub invariant-loop-path : goal.invariant-loop-path

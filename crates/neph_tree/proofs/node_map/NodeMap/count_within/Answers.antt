@@ -1,4 +1,4 @@
-use Rattle.std.proofs.Common.{◌≡◌, ◌+◌, ◌<◌, ◌≤◌, ℕ, List, [], ◌∷◌, ◌++◌, length, sym, ap, ◌∙◌, arith, true}
+use Rattle.std.proofs.Common.{◌≡◌, ◌+◌, ℕ, List, length, sym, ap, ◌∙◌, arith, true}
 use Rattle.std.specs.FinMap.{entries, len-entries}
 use Rattle.std.specs.List.{filter}
 use Rattle.neph_tree.specs.Places.{is_within}

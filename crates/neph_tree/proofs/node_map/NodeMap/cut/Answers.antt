@@ -1,6 +1,5 @@
-use Rattle.std.proofs.Common.{rules, ◌≡◌, sym, ap, ◌∙◌}
+use Rattle.std.proofs.Common.{rules, ap, ◌∙◌}
 use Rattle.std.specs.Prelude.{not}
-use Rattle.std.specs.FinMap as map
 use Rattle.std.proofs.lemmas.Map.Made.{filter_same_pairs}
 use Rattle.neph_tree.specs.Places.{is_within}
 use Rattle.neph_tree.specs.Nodes.{without}

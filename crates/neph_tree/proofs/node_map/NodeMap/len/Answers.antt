@@ -1,4 +1,4 @@
-use Rattle.std.proofs.Common.{◌≡◌, sym, ap, ◌∙◌}
+use Rattle.std.proofs.Common.{sym, ap, ◌∙◌}
 use Rattle.std.specs.FinMap as map
 use Rattle.neph_tree.proofs.EntryLemmas.{len-shown}
 use Rattle.neph_tree.proofs.node_map.NodeMap.len.Goals as goal

@@ -1,7 +1,6 @@
 use Rattle.std.proofs.Common.{◌≡◌, true, is_some, sym, ap, ◌∙◌, arith}
-use Rattle.std.specs.Option.{option_map}
 use Rattle.std.specs.FinMap as map
-use Rattle.neph_tree.proofs.EntryLemmas.{insert-shown, get-shown, some_shown}
+use Rattle.neph_tree.proofs.EntryLemmas.{insert-shown, some_shown}
 use Rattle.neph_tree.proofs.node_map.NodeMap.replace.Goals as goal
 
 pub unreachable-requires : goal.unreachable-requires

@@ -1,4 +1,4 @@
-use Rattle.std.proofs.Common.{◌≡◌, sym, ap, subst, ◌∙◌}
+use Rattle.std.proofs.Common.{sym, ap, subst, ◌∙◌}
 use Rattle.neph_tree.specs.Nodes.{Nodes, IsTree, with_nodes}
 use Rattle.neph_tree.specs.Entries.{shown}
 use Rattle.neph_tree.specs.Growth.{HasEach, with_paths, with_values}

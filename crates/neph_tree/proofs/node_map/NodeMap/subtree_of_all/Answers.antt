@@ -5,7 +5,7 @@ use Rattle.std.specs.List.{filter}
 use Rattle.neph_tree.specs.Places.{is_within}
 use Rattle.neph_tree.specs.Entries.{shown}
 use Rattle.neph_tree.proofs.EntryLemmas.{entries-shown, entries-retain_keys}
-use Rattle.neph_tree.proofs.node_map.NodeMap.subtree.Goals as goal
+use Rattle.neph_tree.proofs.node_map.NodeMap.subtree_of_all.Goals as goal
 
 pub returns : goal.returns
 returns c =
