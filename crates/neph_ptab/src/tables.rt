@@ -1,6 +1,6 @@
 // The tables of a domain.
 ghost use Rattle.std.specs.Prelude.{◌≡◌, ◌≢◌, ◌==◌, ◌/◌, ◌%◌, ◌^◌, ◌<◌, ◌↔◌, ℕ, true, IsTrue, IsSome, IfSome, MatchOption, if◌then◌else◌, Some, None};
-ghost use Rattle.neph_pool.specs.Entries.{hold_at, words_at, with_word, with_words, IsSoleAt};
+ghost use Rattle.neph_pool.specs.Entries.{hold_at, words_at, with_word, with_words, IsHeldAt, IsSoleAt};
 ghost use Rattle.neph_pool.specs.World.{World, IsSeat, Moves, SameCounts};
 ghost use Rattle.neph_ptab.specs.Bits.{root_word, walk_word, NotBoth};
 ghost use Rattle.neph_ptab.specs.Moves.{IsLocal, moved_walk, is_shown, walk_moved};
@@ -9,7 +9,7 @@ ghost use Rattle.neph_ptab.specs.Tables.{leaf_at, walk_at, IsTables, IsRetabled,
 use crate::bits::{leaf_in, leaf_place, root_place, root_word, walk_in, walk_word};
 use crate::empty_table::wipe;
 use crate::walk::Walk;
-use neph_base::{FrameNo, TABLE_ENTRIES, Vpn};
+use neph_base::{FrameNo, MAX_FRAMES, TABLE_ENTRIES, Vpn};
 use neph_pool::FramePool;
 use std::marker::PhantomData;
 
@@ -62,6 +62,23 @@ impl<P: FramePool> Tables<P> {
         ensures counts { SameCounts P.world pool.old pool.new }
     {
         let word = pool.read(seat, self.root, root_place(v));
+        leaf_in(word)
+    }
+
+    /// The leaf table of the place `i` of the root, `None` exactly where there is none. The root
+    /// alone must still stand.
+    pub fn nth_leaf(&self, pool: &mut P, seat: &mut P::Seat, i: u16) -> Option<FrameNo>
+        requires seat { IsSeat P.world pool.old seat.old }
+        requires root { IsHeldAt (P.world.entries pool.old seat.old) self.now.root }
+        requires place { i < TABLE_ENTRIES }
+        requires number { (f : ℕ) → leaf_at (P.world.entries pool.old seat.old) self.now.root i
+            ≡ Some f → f < MAX_FRAMES }
+        ensures leaf { result ≡ leaf_at (P.world.entries pool.old seat.old) self.now.root i }
+        ensures entries { P.world.entries pool.new seat.new ≡ P.world.entries pool.old seat.old }
+        ensures moves { Moves P.world pool.old seat.old pool.new seat.new }
+        ensures counts { SameCounts P.world pool.old pool.new }
+    {
+        let word = pool.read(seat, self.root, i);
         leaf_in(word)
     }
 

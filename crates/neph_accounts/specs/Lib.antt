@@ -1,0 +1,9 @@
+pub mod Holdings
+pub mod Places
+pub mod Accounts
+pub mod Colours
+pub mod Heaps
+pub mod Named
+pub mod Changes
+pub mod Budgets
+pub mod Laws

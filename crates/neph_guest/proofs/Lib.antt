@@ -1,0 +1,4 @@
+pub mod HalfRows
+pub mod Staying
+pub mod Settling
+pub mod Copies

@@ -1,0 +1,28 @@
+use Rattle.std.proofs.Common.{◌≡◌, sym, ap, subst, ◌∙◌}
+use Rattle.neph_model.specs.declared.told.Told.TheVariants.{Enough}
+use Rattle.neph_model.specs.Own.{local_step}
+use Rattle.neph_guest.specs.declared.live.Guest.{Guest}
+use Rattle.neph_guest.specs.declared.row.LocalTurn.{LocalTurn}
+use Rattle.neph_guest.specs.OwnHalf.{IsOwnHalf}
+use Rattle.neph_guest.specs.Turns.{TurnDone, guest_after}
+use Rattle.neph_guest.proofs.Settling.{jumped, jump_spare, settled}
+use Rattle.neph_guest.proofs.local.local_turn.Goals as goal
+
+pub returns-in-Some-clause-turn : goal.returns-in-Some-clause-turn
+returns-in-Some-clause-turn g c = λ s p o e h.
+    jumped g.P.FramePool.world c.args.pool.now c.args.live.now c.jump.new.guest o c.args.command.now _ c.in-Some.reply h c.in-Some.ensures.guest
+    (c.in-Some.ensures.step s p o e h.line h.came h.refused)
+
+pub returns-in-Some-clause-spare : goal.returns-in-Some-clause-spare
+returns-in-Some-clause-spare g c = jump_spare g.P.FramePool.world c.args.pool.now c.args.live.now c.args.command.now _ c.in-Some.ensures.some
+
+pub returns-in_ok-row-in-None-clause-turn : goal.returns-in_ok-row-in-None-clause-turn
+returns-in_ok-row-in-None-clause-turn g c = λ s p o e h.
+    let W = g.P.FramePool.world in
+    let l = c.args.live.now in
+    let row = c.in_ok-row-in-None.row in
+    let guest : c.settle.new.guest ≡ guest_after l.guest row = c.settle.ensures.guest ∙ ap (λ (x : Guest). guest_after x row) c.in-None.ensures.guest in
+    let step = c.in-None.ensures.step s p o e h.line h.came h.refused in
+    subst (λ (x : Guest). TurnDone (IsOwnHalf W c.memory_row.new.pool (record { guest = x; local = c.memory_row.new.d })) o c.args.command.now (local_step s p o Enough c.args.command.now) c.settle.result) (sym guest)
+    (subst (λ (t : LocalTurn). TurnDone (IsOwnHalf W c.memory_row.new.pool (record { guest = guest_after l.guest row; local = c.memory_row.new.d })) o c.args.command.now (local_step s p o Enough c.args.command.now) t) (sym c.settle.ensures.turn)
+    (settled W c.args.pool.now l c.memory_row.new.pool c.memory_row.new.d o h c.args.command.now (local_step s p o Enough c.args.command.now) step row (c.in_ok-row-in-None.ensures.row o h.own)))

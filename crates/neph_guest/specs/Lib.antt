@@ -1,0 +1,2 @@
+pub mod OwnHalf
+pub mod Turns

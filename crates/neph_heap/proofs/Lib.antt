@@ -1,0 +1,10 @@
+pub mod Counting
+pub mod Among
+pub mod Steps
+pub mod Shown
+pub mod Heaps
+pub mod Filling
+pub mod Maps
+pub mod Spans
+pub mod Filled
+pub mod Spare

@@ -1,0 +1,16 @@
+use Rattle.std.proofs.Common.{◌≡◌, ℕ, Some, take}
+use Rattle.neph_pool.specs.Entries.{words_at}
+use Rattle.neph_pool.specs.World.{Moves}
+use Rattle.neph_pool.specs.declared.entry.Hold.TheVariants.{Sole}
+use Rattle.neph_heap.specs.Holds.{HoldsAmong}
+use Rattle.neph_heap.proofs.moves.retake_all.Given as goal
+
+abbrev pub invariant-loop-f : goal.invariant-loop-f
+invariant-loop-f g l =
+    let W = g.P.FramePool.world in
+    let es = W.entries l.initial.pool l.initial.seat in record {
+      holds : HoldsAmong (take l.f-index l.frames) (Some Sole) es (W.entries l.pool l.seat);
+      words : (f : ℕ) → words_at (W.entries l.pool l.seat) f ≡ words_at es f;
+      moves : Moves W l.initial.pool l.initial.seat l.pool l.seat;
+      shares : W.shares l.pool ≡ W.shares l.initial.pool;
+    }

@@ -1,0 +1,6 @@
+pub mod Lists
+pub mod Stock
+pub mod Holds
+pub mod Pages
+pub mod Heap
+pub mod Kept

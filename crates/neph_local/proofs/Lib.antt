@@ -1,0 +1,13 @@
+pub mod Starting
+pub mod Rooted
+pub mod Carrying
+pub mod Adopting
+pub mod Sprouting
+pub mod Releasing
+pub mod Emptying
+pub mod Crowd
+pub mod Stepping
+pub mod Tabling
+pub mod Sprouted
+pub mod Wording
+pub mod Growing

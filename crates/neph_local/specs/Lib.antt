@@ -1,0 +1,5 @@
+pub mod Starts
+pub mod Forks
+pub mod Copies
+pub mod Freed
+pub mod Crowd
