@@ -1,6 +1,6 @@
 -- What is read is well formed.
 use Rattle.std.proofs.Common.{◌≡◌, ℕ, zero, suc, ◌+◌, ◌≤◌, true, false, List, [], ◌∷◌, ◌++◌, length, Option, Some, None, Ok, All, refl, sym, ap, subst, ◌∙◌, arith}
-use Rattle.std.specs.Prelude.{⊤, nat_lt}
+use Rattle.std.specs.Prelude.{nat_lt}
 use Rattle.std.proofs.lemmas.Bool.{ltb-true, leb-false}
 use Rattle.std.proofs.lemmas.List.{length-append}
 use Rattle.std.proofs.lemmas.List.Elements.{All-nil, All-cons, All-push, All-head, All-tail}
@@ -12,7 +12,7 @@ use Rattle.neph_model.specs.declared.script.Program.{Program}
 use Rattle.neph_model.specs.declared.script.Label.{Label}
 use Rattle.neph_model.specs.declared.script.Start.{Start}
 use Rattle.neph_model.specs.Programs.{command_in, label_line}
-use Rattle.neph_model.specs.WellFormed.{FitsPage, IsAhead, JumpsAhead, IsWellFormedProgram, IsWellFormedStart, IsWellFormed}
+use Rattle.neph_model.specs.WellFormed.{FitsPage, IsAhead, JumpsAhead, IsWellFormedProgram, IsWellFormedStart, IsWellFormed, frames_of_starts}
 use Rattle.neph_script.specs.declared.command.Said.{Said}
 use Rattle.neph_script.specs.declared.command.Said.TheVariants as said
 use Rattle.neph_script.specs.declared.state.Place.{Place}
@@ -27,17 +27,14 @@ use Rattle.neph_script.specs.Forms.{equals}
 use Rattle.neph_script.specs.Lines.{taken, settled, settled_one, toward, ahead, label_place, may_stand}
 use Rattle.neph_script.specs.Spelling.{Stands, IsSaid, InRange}
 use Rattle.neph_script.specs.Grammar.{read_script, lines, may_end}
-use Rattle.std.proofs.lemmas.List.Sums.{sum_by-append, sum_by-cons}
-use Rattle.neph_script.specs.Room.{needed, start_frames}
 use Rattle.neph_script.proofs.Inverse.{bind_ok, let_in, same_ok}
-use Rattle.neph_script.proofs.Fitting.{as_many}
 use Rattle.neph_script.proofs.Folded.{folded}
 
 -- the frames were read where their line stands, and the starting domains so far need no more
 FramesRead : Place → ℕ → List Start → Type 0
 FramesRead place.Top n starts = starts ≡ []
 FramesRead place.Headed n starts = starts ≡ []
-FramesRead _ n starts = (16 ≤ n) × (n ≤ 16384) × (needed starts ≤ n)
+FramesRead _ n starts = (16 ≤ n) × (n ≤ 16384) × (frames_of_starts starts ≤ n)
 
 record Formed (r : Read) : Type 0 where
   frames : FramesRead r.place r.frames r.starts
@@ -53,7 +50,7 @@ unfolding FramesRead
 at_start = record { frames = refl; programs = All-nil IsWellFormedProgram; said = All-nil IsSaid; said_few = omega arith; labels = All-nil (λ (l : Label). l.at ≤ 0); starts = All-nil (IsWellFormedStart 0); few = omega arith }
 
 -- a form that stands behind the frames only
-framed : (f : Form) (p : Place) (n : ℕ) (starts : List Start) → may_stand f place.Top ≡ false → may_stand f place.Headed ≡ false → may_stand f p ≡ true → FramesRead p n starts → (16 ≤ n) × (n ≤ 16384) × (needed starts ≤ n)
+framed : (f : Form) (p : Place) (n : ℕ) (starts : List Start) → may_stand f place.Top ≡ false → may_stand f place.Headed ≡ false → may_stand f p ≡ true → FramesRead p n starts → (16 ≤ n) × (n ≤ 16384) × (frames_of_starts starts ≤ n)
 unfolding FramesRead
 framed f place.Top n starts a b e h = absurd cc
 framed f place.Headed n starts a b e h = absurd cc
@@ -141,6 +138,13 @@ all_ahead labels line (s ∷ ss) cs h e =
     subst (AllAhead labels line) (same_ok (one.value ∷ two.value) cs two.rest)
     (ahead_cons labels line one.value two.value (one_settles labels line s one.value (All-head IsSaid s ss h) one.first).1 (all_ahead labels (line + 1) ss two.value (All-tail IsSaid s ss h) two.first))
 
+as_many : (labels : List Label) (line : ℕ) (said : List Said) (cs : List Command) → settled labels line said ≡ Ok cs → length cs ≡ length said
+as_many labels line [] cs e = ap length (sym (same_ok [] cs e))
+as_many labels line (s ∷ ss) cs e =
+    let one = bind_ok (settled_one labels line s) _ cs e in
+    let two = bind_ok (settled labels (line + 1) ss) _ cs one.rest in
+    ap length (sym (same_ok (one.value ∷ two.value) cs two.rest)) ∙ ap suc (as_many labels (line + 1) ss two.value two.first)
+
 ended_formed : (r : Read) (cs : List Command) → Formed r → settled r.draft.labels 0 r.draft.said ≡ Ok cs → IsWellFormedProgram (record { name = r.draft.name; commands = cs; labels = r.draft.labels })
 unfolding AllAhead
 ended_formed r cs l e =
@@ -161,11 +165,8 @@ no_said n = All-nil (λ (l : Label). l.at ≤ n)
 longer : (r : Read) (c : Said) → length (r.draft.said ++ c ∷ []) ≡ length r.draft.said + 1
 longer r c = length-append r.draft.said (c ∷ [])
 
-none_needed : (starts : List Start) (n : ℕ) → starts ≡ [] → needed starts ≤ n
-none_needed starts n none = omega (arith, ap needed none)
-
-one_more : (starts : List Start) (t : Start) → needed (starts ++ t ∷ []) ≡ needed starts + start_frames t
-one_more starts t = sum_by-append start_frames starts (t ∷ []) ∙ omega (arith, sum_by-cons start_frames t [])
+none_needed : (starts : List Start) (n : ℕ) → starts ≡ [] → frames_of_starts starts ≤ n
+none_needed starts n none = omega (arith, ap frames_of_starts none)
 
 keeps : (r : Read) (ws : List (List ℕ)) (i : Item) → Formed r → Stands r ws i → Formed (taken r i)
 unfolding FramesRead
@@ -208,7 +209,7 @@ keeps r ws (item.End cs) l s =
 keeps r ws (item.Start t) l s =
     let frames = framed form.Domain r.place r.frames r.starts refl refl s.place l.frames in
     record {
-      frames = (frames.0, frames.1, omega (arith, s.said.frames, one_more r.starts t));
+      frames = (frames.0, frames.1, s.said.frames);
       programs = l.programs;
       said = l.said;
       said_few = l.said_few;
@@ -219,7 +220,7 @@ keeps r ws (item.Start t) l s =
 keeps r ws (item.Turns more) l s =
     record { frames = framed form.Turns r.place r.frames r.starts refl refl s.place l.frames; programs = l.programs; said = l.said; said_few = l.said_few; labels = l.labels; starts = l.starts; few = l.few }
 
-at_end : (p : Place) (n : ℕ) (starts : List Start) → may_end p ≡ true → FramesRead p n starts → (16 ≤ n) × (n ≤ 16384) × (needed starts ≤ n)
+at_end : (p : Place) (n : ℕ) (starts : List Start) → may_end p ≡ true → FramesRead p n starts → (16 ≤ n) × (n ≤ 16384) × (frames_of_starts starts ≤ n)
 unfolding FramesRead
 at_end place.Top n starts e h = absurd cc
 at_end place.Headed n starts e h = absurd cc

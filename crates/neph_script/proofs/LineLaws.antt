@@ -1,5 +1,5 @@
 -- Lines that were read are those that spell what they say.
-use Rattle.std.proofs.Common.{◌≡◌, ℕ, ◌+◌, ◌<◌, ◌≤◌, Bool, true, false, cond, List, [], ◌∷◌, map, length, get_or, Option, Some, None, Ok, Err, All, refl, sym, ap, subst, ◌∙◌, arith}
+use Rattle.std.proofs.Common.{◌≡◌, ℕ, ◌+◌, ◌<◌, ◌≤◌, Bool, true, false, cond, List, [], ◌∷◌, ◌++◌, map, length, get_or, Option, Some, None, Ok, Err, All, refl, sym, ap, subst, ◌∙◌, arith}
 use Rattle.std.specs.Prelude.{codes, nat_lt, slice_get}
 use Rattle.std.specs.Map.{lookup}
 use Rattle.std.specs.Option.{option_map, option_or}
@@ -9,6 +9,7 @@ use Rattle.std.proofs.lemmas.List.Elements.{All-nil, All-cons}
 use Rattle.neph_base.specs.declared.reply.Actor.{Actor}
 use Rattle.neph_model.specs.declared.script.Program.{Program}
 use Rattle.neph_model.specs.declared.script.Start.{Start}
+use Rattle.neph_model.specs.WellFormed.{frames_of_starts}
 use Rattle.neph_script.specs.declared.form.Form.{Form}
 use Rattle.neph_script.specs.declared.form.Form.TheVariants as form
 use Rattle.neph_script.specs.declared.form.Verb.{Verb}
@@ -25,7 +26,6 @@ use Rattle.std.proofs.lemmas.Option.{slice_get-get_or}
 use Rattle.neph_script.specs.State.{Read}
 use Rattle.neph_script.specs.Words.{number, name, is_name, actor_named}
 use Rattle.neph_script.specs.Commands.{command_said}
-use Rattle.neph_script.specs.Room.{needed, start_frames, has_room}
 use Rattle.neph_script.specs.Lines.{may_stand, is_many, are_whole, word_count, item_of, judged, judged_form, new_name, unless_given, label_place, program_place, program_named, settled, actors, domain_line, started, fitting}
 use Rattle.neph_script.specs.Spelling.{actor_word, IsActor, name_of_program, start_words, item_words, form_said, CanStart, CanBeSaid, Stands}
 use Rattle.neph_script.proofs.Inverse.{bind_ok, some_from_ok, let_on, let_in, same_ok}
@@ -143,11 +143,10 @@ program_read programs word p e =
     let name_is : word ≡ (get_or programs p no_program).name = equal_from word (get_or programs p no_program).name found.1 in
     record { is = name_is ∙ ap name_of_program (sym (slice_get-get_or programs p no_program found.0)); within = found.0; named = ap is_name named.0 ∙ named.1; place = here }
 
-fitting_read : (r : Read) (t : Start) (i : Item) → fitting r t ≡ Ok i → (i ≡ item.Start t) × (needed r.starts + start_frames t ≤ r.frames) × (has_room r.frames r.programs r.starts t ≡ true)
+fitting_read : (r : Read) (t : Start) (i : Item) → fitting r t ≡ Ok i → (i ≡ item.Start t) × (frames_of_starts (r.starts ++ t ∷ []) ≤ r.frames)
 fitting_read r t i e =
-    let one = let_on (nat_lt r.frames (needed r.starts + start_frames t)) why.Frames (if has_room r.frames r.programs r.starts t then Ok (item.Start t) else Err why.Unbuilt) i e in
-    let two = let_in (has_room r.frames r.programs r.starts t) why.Unbuilt (Ok (item.Start t)) i one.1 in
-    (sym (same_ok (item.Start t) i two.1), ltb-false r.frames (needed r.starts + start_frames t) one.0, two.0)
+    let one = let_on (nat_lt r.frames (frames_of_starts (r.starts ++ t ∷ []))) why.Frames (Ok (item.Start t)) i e in
+    (sym (same_ok (item.Start t) i one.1), ltb-false r.frames (frames_of_starts (r.starts ++ t ∷ [])) one.0)
 
 -- a domain line says this
 pub record SaysStart (r : Read) (words : List (List ℕ)) (i : Item) : Type 0 where
@@ -175,7 +174,7 @@ started_read r program pages limit net i e =
       start = t;
       is = sym fit.0;
       spelled = four_words _ program pages limit net _ _ _ _ p.is n.is k.is (equal_from net (codes "open") end.0);
-      can = record { program = p.within; name = ap is_name (sym p.is) ∙ p.named; named = ap (program_place r.programs) (sym p.is) ∙ p.place; pages_low = n.low_is; pages_high = n.high_is; limit = k.high_is; frames = fit.1; room = fit.2 };
+      can = record { program = p.within; name = ap is_name (sym p.is) ∙ p.named; named = ap (program_place r.programs) (sym p.is) ∙ p.place; pages_low = n.low_is; pages_high = n.high_is; limit = k.high_is; frames = fit.1 };
     }
 
 -- a line of a form says something

@@ -1,5 +1,5 @@
 -- Lines that spell what may be said are read so.
-use Rattle.std.proofs.Common.{◌≡◌, ℕ, ◌+◌, ◌/◌, ◌%◌, ◌^◌, ◌<◌, ◌≤◌, Bool, true, false, cond, List, [], ◌∷◌, length, map, drop, Option, Some, None, Result, Ok, Err, All, refl, ap, subst, ◌∙◌, arith}
+use Rattle.std.proofs.Common.{◌≡◌, ℕ, ◌+◌, ◌/◌, ◌%◌, ◌^◌, ◌<◌, ◌≤◌, Bool, true, false, cond, List, [], ◌∷◌, ◌++◌, length, map, drop, Option, Some, None, Result, Ok, Err, All, refl, ap, subst, ◌∙◌, arith}
 use Rattle.std.specs.Prelude.{nat_lt, slice_get, slice_index, ◌&&◌}
 use Rattle.std.specs.Option.{ok_or}
 use Rattle.std.specs.Fmt.{decimal}
@@ -12,6 +12,7 @@ use Rattle.neph_base.specs.declared.command.Mode.TheVariants.{Ro, Rw}
 use Rattle.neph_model.specs.Words.{hex, hex_digit, mode_word}
 use Rattle.neph_base.specs.declared.reply.Actor.{Actor}
 use Rattle.neph_model.specs.declared.script.Start.{Start}
+use Rattle.neph_model.specs.WellFormed.{frames_of_starts}
 use Rattle.neph_script.specs.declared.command.Said.{Said}
 use Rattle.neph_script.specs.declared.command.Said.TheVariants as said
 use Rattle.neph_script.specs.declared.form.Form.{Form}
@@ -24,7 +25,6 @@ use Rattle.neph_script.specs.declared.why.Why.TheVariants as why
 use Rattle.neph_script.specs.State.{Read}
 use Rattle.neph_script.specs.Words.{◌>>=◌, number, piece, hex_bytes, byte_value, digit_value, is_name, is_letter, name, mode}
 use Rattle.neph_script.specs.Commands.{whole, command_said}
-use Rattle.neph_script.specs.Room.{needed, start_frames}
 use Rattle.neph_script.specs.Lines.{may_stand, is_many, are_whole, item_of, judged, judged_form, new_name, label_place, program_place, program_named, fitting}
 use Rattle.neph_script.specs.Spelling.{Stands, CanStart, IsSaid, item_words, said_words, start_words, name_of_program, verb_said, turns_words, actor_word, IsActor}
 use Rattle.neph_script.proofs.Ranges.{number_only}
@@ -162,7 +162,7 @@ named_again : (r : Read) (t : Start) → CanStart r t → program_named r.progra
 named_again r t c = rw (name_again (name_of_program (slice_get r.programs t.program)) c.name, c.named) refl
 
 fitting_again : (r : Read) (t : Start) → CanStart r t → fitting r t ≡ Ok (item.Start t)
-fitting_again r t c = rw (le-ltb r.frames (needed r.starts + start_frames t) c.frames, c.room) refl
+fitting_again r t c = rw (le-ltb r.frames (frames_of_starts (r.starts ++ t ∷ [])) c.frames) refl
 
 start_again : (r : Read) (t : Start) → CanStart r t → item_of r form.Domain (drop 1 (start_words r.programs t)) ≡ Ok (item.Start t)
 start_again r t c = rw (named_again r t c, number_again 8 1024 t.pages c.pages_low c.pages_high (omega arith), number_again 0 62 t.limit (omega arith) c.limit (omega arith)) (fitting_again r t c)

@@ -6,7 +6,6 @@ pub mod Outcomes
 pub mod Commands
 pub mod Index
 pub mod State
-pub mod Room
 pub mod Lines
 pub mod Spelling
 pub mod Text

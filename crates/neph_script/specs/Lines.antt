@@ -9,10 +9,10 @@ use Rattle.neph_model.specs.declared.script.Program.{Program}
 use Rattle.neph_model.specs.declared.script.Label.{Label}
 use Rattle.neph_model.specs.declared.script.Start.{Start}
 use Rattle.neph_model.specs.Programs.{label_line}
+use Rattle.neph_model.specs.WellFormed.{frames_of_starts}
 use Rattle.neph_script.specs.Forms.{equals, form_of, is_later}
 use Rattle.neph_script.specs.Words.{◌>>=◌, number, name, actor_named}
 use Rattle.neph_script.specs.Commands.{command_said}
-use Rattle.neph_script.specs.Room.{needed, start_frames, has_room}
 use Rattle.neph_script.specs.State.{Read, no_draft}
 use Rattle.neph_script.specs.declared.command.Said.{Said}
 use Rattle.neph_script.specs.declared.command.Said.TheVariants as said
@@ -104,11 +104,11 @@ settled labels line (s ∷ ss) = do
   cs ← settled labels (line + 1) ss
   Ok (c ∷ cs)
 
--- a domain line, where the frames are enough
+-- a domain line, where the frames are enough for the starting domains so far
 abbrev pub fitting : Read → Start → Result Item Why
 fitting r t =
-    if nat_lt r.frames (needed r.starts + start_frames t) then Err why.Frames
-    else (if has_room r.frames r.programs r.starts t then Ok (item.Start t) else Err why.Unbuilt)
+    if nat_lt r.frames (frames_of_starts (r.starts ++ t ∷ [])) then Err why.Frames
+    else Ok (item.Start t)
 
 -- a word in the place of a program
 abbrev pub program_named : List Program → List ℕ → Result ℕ Why

@@ -1,6 +1,6 @@
 -- What the reader's state shows of what was read, and what holds of it.
-use Rattle.std.specs.Prelude.{◌≡◌, ◌≤◌, ◌<◌, ◌+◌, ⊤, ℕ, List, length, Result, Ok, Err}
-use Rattle.neph_script.specs.Room.{AreSmall, AreSized}
+use Rattle.std.specs.Prelude.{◌≡◌, ◌≤◌, ◌<◌, ◌+◌, ⊤, ℕ, List, All, length, Result, Ok, Err}
+use Rattle.neph_model.specs.declared.script.Start.{Start}
 use Rattle.neph_script.specs.State as state
 use Rattle.neph_script.specs.Index.{place_in}
 use Rattle.neph_script.specs.Lines.{label_place, program_place}
@@ -35,6 +35,10 @@ pub record IsDraft (d : Draft) : Type 0 where
   pub labels_few : length d.labels.items ≤ 512
   pub places : (q : List ℕ) → place_in d.places q ≡ label_place d.labels.items q
 
+-- no starting domain has more than 1024 pages
+abbrev pub AreSized : List Start → Type 0
+AreSized starts = All (λ (t : Start). t.pages ≤ 1024) starts
+
 -- how many programs lack their `end`
 abbrev pub unended : Place → ℕ
 unended place.Inside = 1
@@ -44,7 +48,6 @@ unended _ = 0
 pub record IsSound (r : Reader) : Type 0 where
   pub frames : r.frames ≤ 16384
   pub programs_few : length r.programs.items + unended r.place ≤ 16
-  pub programs : AreSmall r.programs.items
   pub places : (q : List ℕ) → place_in r.places q ≡ program_place r.programs.items q
   pub draft : IsDraft r.draft
   pub starts_few : length r.starts.items ≤ 16
@@ -58,7 +61,7 @@ Fits r (item.Frames n) = n ≤ 16384
 Fits r (item.Program name) = length r.programs < 16
 Fits r (item.Command s) = length r.draft.said < 512
 Fits r (item.Label name) = length r.draft.labels < 512
-Fits r (item.End cs) = (r.place ≡ place.Inside) × (length cs ≤ 512)
+Fits r (item.End cs) = r.place ≡ place.Inside
 Fits r (item.Start t) = (length r.starts < 16) × (t.pages ≤ 1024)
 Fits r (item.Turns more) = r.turn_lines < 64
 

@@ -1,5 +1,5 @@
 -- The words of the lines of a script, and what may be said by a line.
-use Rattle.std.specs.Prelude.{◌≡◌, ℕ, ◌+◌, ◌^◌, ◌%◌, ◌<◌, ◌≤◌, true, false, ⊤, List, [], ◌∷◌, map, length, drop, codes, Option, None, Some, Ok, All, slice_get}
+use Rattle.std.specs.Prelude.{◌≡◌, ℕ, ◌+◌, ◌^◌, ◌%◌, ◌<◌, ◌≤◌, true, false, ⊤, List, [], ◌∷◌, ◌++◌, map, length, drop, codes, Option, None, Some, Ok, All, slice_get}
 use Rattle.std.specs.Fmt.{decimal}
 use Rattle.neph_base.specs.declared.command.Command.{Command}
 use Rattle.neph_base.specs.declared.command.Command.TheVariants as command
@@ -7,9 +7,9 @@ use Rattle.neph_base.specs.declared.reply.Actor.{Actor}
 use Rattle.neph_base.specs.declared.reply.Actor.TheVariants as actor
 use Rattle.neph_model.specs.declared.script.Program.{Program}
 use Rattle.neph_model.specs.declared.script.Start.{Start}
+use Rattle.neph_model.specs.WellFormed.{frames_of_starts}
 use Rattle.neph_model.specs.Words.{command_words}
 use Rattle.neph_script.specs.Words.{is_name}
-use Rattle.neph_script.specs.Room.{needed, start_frames, has_room}
 use Rattle.neph_script.specs.State.{Read}
 use Rattle.neph_script.specs.Lines.{may_stand, is_many, settled, label_place, program_place}
 use Rattle.neph_script.specs.declared.command.Said.{Said}
@@ -125,8 +125,7 @@ pub record CanStart (r : Read) (t : Start) : Type 0 where
   pub pages_low : 8 ≤ t.pages
   pub pages_high : t.pages ≤ 1024
   pub limit : t.limit ≤ 62
-  pub frames : needed r.starts + start_frames t ≤ r.frames
-  pub room : has_room r.frames r.programs r.starts t ≡ true
+  pub frames : frames_of_starts (r.starts ++ t ∷ []) ≤ r.frames
 
 -- what may be said behind what was read, but for its place and its count
 abbrev pub CanBeSaid : Read → Item → Type 0

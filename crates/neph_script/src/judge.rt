@@ -7,7 +7,7 @@ ghost use Rattle.neph_script.specs.Seen.{seen, IsSound};
 
 use crate::command::{command_line, name};
 use crate::form::{Form, begun_by, is_later};
-use crate::room::{has_room, needed, start_frames};
+use crate::frames::{frames_of_start, frames_of_starts};
 use crate::state::{Item, Place, Reader};
 use crate::why::{LineEnd, Why};
 use crate::word::{actor, is_name, number};
@@ -147,11 +147,8 @@ impl Reader {
         requires pages { start.pages ≤ 1024 }
         ensures { result ≡ fitting (seen self.now) start }
     {
-        if needed(&self.starts) + start_frames(start) > self.frames {
+        if frames_of_starts(&self.starts) + frames_of_start(start) > self.frames {
             return Err(Why::Frames);
-        }
-        if !has_room(self.frames, &self.programs, &self.starts, start) {
-            return Err(Why::Unbuilt);
         }
         Ok(Item::Start(start))
     }

@@ -3,12 +3,12 @@
 
 mod command;
 mod form;
+mod frames;
 mod index;
 mod judge;
 pub mod laws;
 mod printing;
 mod reading;
-mod room;
 mod settle;
 mod state;
 #[cfg(test)]

@@ -157,9 +157,9 @@ static FAULTS: [(&str, u32, Why); 62] = [
         Why::Frames,
     ),
     (
-        "nephele 1\nframes 16\nprogram p\nmap 9 4 ro\nmap 9 4 ro\nmap 9 4 ro\nmap 9 4 ro\nmap 9 4 ro\nmap 9 4 ro\nend\ndomain p 8 0 open\n",
-        11,
-        Why::Unbuilt,
+        "nephele 1\nframes 20\nprogram p\nend\ndomain p 8 0 open\ndomain p 8 0 open\ndomain p 8 0 open\n",
+        7,
+        Why::Frames,
     ),
     (
         "nephele 1\nframes 16\nprogram p\nend\ndomain p 8 0 open\nprogram q\n",
@@ -216,10 +216,11 @@ fn faults(rt: HostRuntime) {
 }
 
 // Texts that are printed as they stand.
-static PRINTED: [&str; 4] = [
+static PRINTED: [&str; 5] = [
     "nephele 1\nframes 16384\nprogram p\nw 16384 00ff\nr 1073741823 1\nlabel a\nmap 262143 1023 ro\nmap 0 4 rw\nunmap 9\njump b\njchild c\njfail c\nexit\nlabel b\nlabel c\nfree\nclone\nend\ndomain p 8 0 open\n",
     "nephele 1\nframes 16\nprogram abcdefghijklmnop\nend\ndomain abcdefghijklmnop 14 62 open\nturns 63 1 daemon console net p9\n",
     "nephele 1\nframes 64\nprogram a\nlabel z\nend\nprogram b\njump z\nlabel z\nend\ndomain b 8 1 open\ndomain a 9 2 open\ndomain b 8 3 open\n",
+    "nephele 1\nframes 20\nprogram p\nmap 512 4 ro\nmap 1024 4 ro\nclone\nclone\nend\ndomain p 8 2 open\ndomain p 8 62 open\n",
     "nephele 1\nframes 16\nprogram p\nend\ndomain p 8 0 open\nturns 1 1 1 1 1 1 1 1 1 1 1 1 1 1 1 1 1 1 1 1 1 1 1 1 1 1 1 1 1 1 1 1 1 1 1 1 1 1 1 1 1 1 1 1 1 1 1 1 1 1 1 1 1 1 1 1 1 1 1 1 1 1 1 2\nturns 3\n",
 ];
 

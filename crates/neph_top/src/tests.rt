@@ -17,7 +17,7 @@ struct Case {
     text: &'static str,
 }
 
-static CASES: [Case; 26] = [
+static CASES: [Case; 31] = [
     // A page is written and read.
     Case {
         script: "nephele 1\nframes 16\nprogram p\nw 16384 6869\nr 16384 3\nexit\nend\ndomain p 8 0 open\n",
@@ -83,6 +83,42 @@ static CASES: [Case; 26] = [
         script: "nephele 1\nframes 630\nprogram p\nclone\nclone\nclone\nclone\nclone\nclone\nend\ndomain p 8 6 open\n",
         status: 0,
         text: "transcript 1\n1:0 clone = begin 2\n1:0 commit = 2\ndaemon = 2\n1:1 clone = begin 3\n2:1 clone = begin 4\n1:1 commit = 3\n2:1 commit = 4\ndaemon = 3\n1:2 clone = begin 5\n3:2 clone = begin 6\ndaemon = 4\n2:2 clone = begin 7\n4:2 clone = begin 8\n1:2 commit = 5\n3:2 commit = 6\ndaemon = 5\n1:3 clone = begin 9\n2:2 commit = 7\n4:2 commit = 8\n5:3 clone = begin 10\ndaemon = 6\n3:3 clone = begin 11\n6:3 clone = begin 12\ndaemon = 7\n2:3 clone = begin 13\n7:3 clone = begin 14\ndaemon = 8\n4:3 clone = begin 15\n8:3 clone = begin 16\n1:3 commit = 9\n5:3 commit = 10\ndaemon = 9\n1:4 clone = begin 17\n3:3 commit = 11\n6:3 commit = 12\n9:4 clone = begin 18\ndaemon = 10\n2:3 commit = 13\n5:4 clone = begin 19\n7:3 commit = 14\n10:4 clone = begin 20\ndaemon = 11\n3:4 clone = begin 21\n4:3 commit = 15\n8:3 commit = 16\n11:4 clone = begin 22\ndaemon = 12\n6:4 clone = begin 23\n12:4 clone = begin 24\ndaemon = 13\n2:4 clone = begin 25\n13:4 clone = begin 26\ndaemon = 14\n1:4 commit = 17\n7:4 clone = begin 27\n9:4 commit = 18\n14:4 clone = begin 28\ndaemon = 15\n4:4 clone = begin 29\n5:4 commit = 19\n10:4 commit = 20\n15:4 clone = begin 30\ndaemon = 16\n3:4 commit = 21\n8:4 clone = begin 31\n11:4 commit = 22\n16:4 clone = begin 32\ndaemon = 17\n1:5 clone = begin 33\n6:4 commit = 23\n12:4 commit = 24\n17:5 clone = begin 34\ndaemon = 18\n2:4 commit = 25\n9:5 clone = begin 35\n13:4 commit = 26\n18:5 clone = begin 36\ndaemon = 19\n5:5 clone = begin 37\n7:4 commit = 27\n14:4 commit = 28\n19:5 clone = begin 38\ndaemon = 20\n4:4 commit = 29\n10:5 clone = begin 39\n15:4 commit = 30\n20:5 clone = begin 40\ndaemon = 21\n3:5 clone = begin 41\n8:4 commit = 31\n16:4 commit = 32\n21:5 clone = begin 42\ndaemon = 22\n1:5 commit = 33\n11:5 clone = begin 43\n17:5 commit = 34\n22:5 clone = begin 44\ndaemon = 23\n6:5 clone = begin 45\n9:5 commit = 35\n18:5 commit = 36\n23:5 clone = begin 46\ndaemon = 24\n5:5 commit = 37\n12:5 clone = begin 47\n19:5 commit = 38\n24:5 clone = begin 48\ndaemon = 25\n2:5 clone = begin 49\n10:5 commit = 39\n20:5 commit = 40\n25:5 clone = begin 50\ndaemon = 26\n3:5 commit = 41\n13:5 clone = begin 51\n21:5 commit = 42\n26:5 clone = begin 52\ndaemon = 27\n7:5 clone = begin 53\n11:5 commit = 43\n22:5 commit = 44\n27:5 clone = begin 54\ndaemon = 28\n6:5 commit = 45\n14:5 clone = begin 55\n23:5 commit = 46\n28:5 clone = begin 56\ndaemon = 29\n4:5 clone = begin 57\n12:5 commit = 47\n24:5 commit = 48\n29:5 clone = begin 58\ndaemon = 30\n2:5 commit = 49\n15:5 clone = begin 59\n25:5 commit = 50\n30:5 clone = begin 60\ndaemon = 31\n8:5 clone = begin 61\n13:5 commit = 51\n26:5 commit = 52\n31:5 clone = begin 62\ndaemon = 32\n7:5 commit = 53\n16:5 clone = begin 63\n27:5 commit = 54\n32:5 clone = no ids\ndaemon = 33\n1:6 exit = ended\n14:5 commit = 55\n28:5 commit = 56\n32:6 exit = ended\n33:6 exit = ended\ndaemon = 34\n4:5 commit = 57\n17:6 exit = ended\n29:5 commit = 58\n34:6 exit = ended\ndaemon = 35\n9:6 exit = ended\n15:5 commit = 59\n30:5 commit = 60\n35:6 exit = ended\ndaemon = 36\n8:5 commit = 61\n18:6 exit = ended\n31:5 commit = 62\n36:6 exit = ended\ndaemon = 37\n5:6 exit = ended\n16:5 commit = 63\n37:6 exit = ended\ndaemon = 38\n19:6 exit = ended\n38:6 exit = ended\ndaemon = 39\n10:6 exit = ended\n39:6 exit = ended\ndaemon = 40\n20:6 exit = ended\n40:6 exit = ended\ndaemon = 41\n3:6 exit = ended\n41:6 exit = ended\ndaemon = 42\n21:6 exit = ended\n42:6 exit = ended\ndaemon = 43\n11:6 exit = ended\n43:6 exit = ended\ndaemon = 44\n22:6 exit = ended\n44:6 exit = ended\ndaemon = 45\n6:6 exit = ended\n45:6 exit = ended\ndaemon = 46\n23:6 exit = ended\n46:6 exit = ended\ndaemon = 47\n12:6 exit = ended\n47:6 exit = ended\ndaemon = 48\n24:6 exit = ended\n48:6 exit = ended\ndaemon = 49\n2:6 exit = ended\n49:6 exit = ended\ndaemon = 50\n25:6 exit = ended\n50:6 exit = ended\ndaemon = 51\n13:6 exit = ended\n51:6 exit = ended\ndaemon = 52\n26:6 exit = ended\n52:6 exit = ended\ndaemon = 53\n7:6 exit = ended\n53:6 exit = ended\ndaemon = 54\n27:6 exit = ended\n54:6 exit = ended\ndaemon = 55\n14:6 exit = ended\n55:6 exit = ended\ndaemon = 56\n28:6 exit = ended\n56:6 exit = ended\ndaemon = 57\n4:6 exit = ended\n57:6 exit = ended\ndaemon = 58\n29:6 exit = ended\n58:6 exit = ended\ndaemon = 59\n15:6 exit = ended\n59:6 exit = ended\ndaemon = 60\n30:6 exit = ended\n60:6 exit = ended\ndaemon = 61\n8:6 exit = ended\n61:6 exit = ended\ndaemon = 62\n31:6 exit = ended\n62:6 exit = ended\ndaemon = 63\n16:6 exit = ended\n63:6 exit = ended\nframes 630 colours 0 tables 0 spares 0 aside 0 free 630\nend ended\n",
+    },
+    // A limit comes before the frames that a clone needs; a script needs none for its clones.
+    Case {
+        script: "nephele 1\nframes 16\nprogram p\nclone\nend\ndomain p 8 0 open\n",
+        status: 0,
+        text: "transcript 1\n1:0 clone = no limit\n1:1 exit = ended\nframes 16 colours 0 tables 0 spares 0 aside 0 free 16\nend ended\n",
+    },
+    // A clone needs exactly the frames that are free.
+    Case {
+        script: "nephele 1\nframes 16\nprogram p\nfree\nclone\nfree\nend\ndomain p 8 1 open\n",
+        status: 0,
+        text: "transcript 1\n1:0 free = 6\n1:1 clone = begin 2\n1:1 commit = 2\ndaemon = 2\n1:2 free = 0\n2:2 free = 0\n1:3 exit = ended\n2:3 exit = ended\nframes 16 colours 0 tables 0 spares 0 aside 0 free 16\nend ended\n",
+    },
+    // A clone needs one frame more than are free.
+    Case {
+        script: "nephele 1\nframes 16\nprogram p\nfree\nclone\nfree\nend\ndomain p 9 1 open\n",
+        status: 0,
+        text: "transcript 1\n1:0 free = 5\n1:1 clone = no frames 6 5\n1:2 free = 5\n1:3 exit = ended\nframes 16 colours 0 tables 0 spares 0 aside 0 free 16\nend ended\n",
+    },
+    // A clone needs a frame for each leaf table, also for one without mappings.
+    Case {
+        script: "nephele 1\nframes 17\nprogram p\nmap 512 4 rw\nclone\njfail no\nexit\nlabel no\nunmap 512\nclone\nfree\nend\ndomain p 8 1 open\n",
+        status: 0,
+        text: "transcript 1\n1:0 map 512 4 rw = ok\n1:1 clone = no frames 7 6\n1:2 jfail no = go\n1:4 unmap 512 = ok\n1:5 clone = no frames 7 6\n1:6 free = 6\n1:7 exit = ended\nframes 17 colours 0 tables 0 spares 0 aside 0 free 17\nend ended\n",
+    },
+    // A copy lacks a frame. It is made when another domain has ended.
+    Case {
+        script: "nephele 1\nframes 26\nprogram p\nw 16384 61\nclone\njchild kid\nw 16384 62\nfree\nw 16384 62\nfree\nr 16384 1\nexit\nlabel kid\nr 16384 1\nend\nprogram q\nend\ndomain p 8 1 open\ndomain q 8 0 open\nturns 1 1 1 1 1 1 1 daemon 1 1 1 1 2 1 1 1 1\n",
+        status: 0,
+        text: "transcript 1\n1:0 w 16384 61 = ok\n1:1 clone = begin 3\n1:1 commit = 3\ndaemon = 3\n1:2 jchild kid = on\n1:3 w 16384 62 = no noframe\n1:4 free = 0\n2:0 exit = ended\n1:5 w 16384 62 = ok\n1:6 free = 9\n1:7 r 16384 1 = 62\n3:2 jchild kid = go\n1:8 exit = ended\n3:9 r 16384 1 = 61\n3:10 exit = ended\nframes 26 colours 0 tables 0 spares 0 aside 0 free 26\nend ended\n",
+    },
+    // A leaf table lacks a frame.
+    Case {
+        script: "nephele 1\nframes 16\nprogram p\nfree\nmap 512 4 rw\nmap 20 4 rw\nw 81920 07\nr 16384 1\nclone\nend\ndomain p 14 1 open\n",
+        status: 0,
+        text: "transcript 1\n1:0 free = 0\n1:1 map 512 4 rw = no noframe\n1:2 map 20 4 rw = ok\n1:3 w 81920 07 = ok\n1:4 r 16384 1 = 07\n1:5 clone = no frames 6 0\n1:6 exit = ended\nframes 16 colours 0 tables 0 spares 0 aside 0 free 16\nend ended\n",
     },
     Case {
         script: "nephele 2\n",
@@ -153,11 +189,6 @@ static CASES: [Case; 26] = [
         script: "nephele 1\nframes 16\nprogram p\nend\ndomain p 8 0 exclusive\n",
         status: 4,
         text: "script 5 unbuilt\n",
-    },
-    Case {
-        script: "nephele 1\nframes 16\nprogram p\nclone\nend\ndomain p 8 0 open\n",
-        status: 4,
-        text: "script 6 unbuilt\n",
     },
 ];
 
