@@ -2,3 +2,4 @@ pub mod HalfRows
 pub mod Staying
 pub mod Settling
 pub mod Copies
+pub mod Keeping

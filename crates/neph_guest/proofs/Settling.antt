@@ -15,7 +15,22 @@ use Rattle.neph_guest.specs.declared.row.Row.TheVariants as row
 use Rattle.neph_guest.specs.declared.row.LocalTurn.{LocalTurn}
 use Rattle.neph_guest.specs.declared.row.LocalTurn.TheVariants as turn
 use Rattle.neph_guest.specs.OwnHalf.{IsOwnMemory, IsOwnHalf}
-use Rattle.neph_guest.specs.Turns.{IsJump, RowDone, TurnDone, memory_step, spare_after, guest_after, turn_of}
+use Rattle.neph_guest.specs.Turns.{IsJump, RowDone, TurnDone, memory_step, spare_after, LookDone, guest_after, stage_after, turn_of}
+
+-- how far the guest is, and which it is, behind a row that came to this
+pub stage_done : (g : Guest) (x : Row) → (guest_after g x).stage ≡ stage_after g.stage (turn_of x)
+stage_done g (row.Does answer) = refl
+stage_done g (row.Refuses why) = refl
+stage_done g row.Asks = refl
+stage_done g row.Copies = refl
+stage_done g row.LacksFrame = refl
+
+pub dom_done : (g : Guest) (x : Row) → (guest_after g x).dom ≡ g.dom
+dom_done g (row.Does answer) = refl
+dom_done g (row.Refuses why) = refl
+dom_done g row.Asks = refl
+dom_done g row.Copies = refl
+dom_done g row.LacksFrame = refl
 
 module _ {Pool Seat : Type 0} (W : World Pool Seat) (p : Pool) (l : Live Pool Seat) where
   -- behind a jump to the line of the guest h
@@ -43,6 +58,18 @@ module _ {Pool Seat : Type 0} (W : World Pool Seat) (p : Pool) (l : Live Pool Se
   jump_spare command.Exit t j = absurd j
   jump_spare command.Free t j = absurd j
   jump_spare command.Clone t j = absurd j
+
+  pub jump_look : (c : Command) (t : LocalTurn) → IsJump c → LookDone W p l.local l.local.own c t
+  jump_look (command.W addr bytes) t j = absurd j
+  jump_look (command.R addr len) t j = absurd j
+  jump_look (command.Map vpn pfn mode) t j = absurd j
+  jump_look (command.Unmap vpn) t j = absurd j
+  jump_look (command.Jump label) t j = tt
+  jump_look (command.JChild label) t j = tt
+  jump_look (command.JFail label) t j = tt
+  jump_look command.Exit t j = absurd j
+  jump_look command.Free t j = absurd j
+  jump_look command.Clone t j = absurd j
 
   -- behind a row that left this memory
   module _ (q : Pool) (d : DomLocal Pool Seat) (o : Own) (half : IsOwnHalf W p l o) where

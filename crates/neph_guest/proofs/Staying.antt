@@ -1,5 +1,5 @@
 -- What a guest's own half is behind a call on its memory.
-use Rattle.std.proofs.Common.{◌≡◌, ◌≢◌, ◌==◌, if◌then◌else◌, OnOk, OnErr, IfOk, is_some, Bool, true, false, ◌<◌, ◌^◌, ◌/◌, ◌%◌, ℕ, List, length, IsSome, Some, None, Ok, Err, refl, sym, ap, subst, ◌∙◌, arith}
+use Rattle.std.proofs.Common.{◌≡◌, ◌≢◌, ◌==◌, if◌then◌else◌, OnOk, OnErr, IfOk, IfSome, is_some, Bool, true, false, ◌<◌, ◌^◌, ◌/◌, ◌%◌, ℕ, List, length, IsSome, Some, None, Ok, Err, refl, sym, ap, subst, ◌∙◌, arith}
 use Rattle.std.specs.declared.option.Option.{Option}
 use Rattle.std.specs.declared.result.Result.{Result}
 use Rattle.neph_base.specs.declared.command.Command.{Command}
@@ -20,7 +20,7 @@ use Rattle.neph_memory.specs.declared.own.Own.{Own as Memory}
 use Rattle.neph_memory.specs.declared.touch.Touch.{Touch}
 use Rattle.neph_memory.specs.declared.write.WriteStep.{WriteStep}
 use Rattle.neph_memory.specs.Pages.{frame_at}
-use Rattle.neph_memory.specs.Memory.{IsMemory, bytes_for}
+use Rattle.neph_memory.specs.Memory.{IsMemory, bytes_for, is_marked}
 use Rattle.neph_memory.specs.Steps.{read_answer, IsStepOn, IsWriteStep, page_after_step, hand_after_step}
 use Rattle.neph_memory.specs.Mapped.{is_bad_page, IsMapAnswer, leaf_after_map, spare_after_map}
 use Rattle.neph_memory.specs.declared.fault.MapFault.{MapFault}
@@ -28,13 +28,13 @@ use Rattle.neph_memory.specs.declared.fault.MapFault.TheVariants as fault
 use Rattle.neph_memory.specs.declared.touch.Touch.TheVariants as touch
 use Rattle.neph_memory.specs.declared.write.Write.{Write}
 use Rattle.neph_memory.specs.declared.write.WriteStep.TheVariants as step
-use Rattle.neph_memory.specs.Domains.{IsStanding, domain_page, domain_mapping, domain_leaf, KeepsPages, KeepsMap, KeepsLeaves, IsUnchanged}
+use Rattle.neph_memory.specs.Domains.{IsStanding, domain_page, domain_mapping, domain_leaf, KeepsPages, KeepsMap, KeepsLeaves, IsUnchanged, IsSharedPage}
 use Rattle.neph_memory.proofs.Standing.{moved_page, moved_shown}
 use Rattle.neph_memory.proofs.Rooming.{room_after}
 use Rattle.neph_memory.specs.OwnHalf.{IsReadAs}
 use Rattle.neph_guest.specs.OwnHalf.{IsOwnMemory}
 use Rattle.neph_guest.specs.declared.row.Row.{Row}
-use Rattle.neph_guest.specs.Turns.{RowDone, RowDoneOrLacks, IsRowOfMap, HandDone, IsWithoutSpare, IsWriteInHand, memory_step, row_of_write, row_of_read, row_of_unmap, spare_after, turn_of}
+use Rattle.neph_guest.specs.Turns.{RowDone, RowDoneOrLacks, IsRowOfMap, HandDone, LookDone, IsWithoutSpare, IsWriteInHand, memory_step, row_of_write, row_of_read, row_of_unmap, spare_after, turn_of}
 use Rattle.neph_memory.proofs.HalfParts.{same}
 use Rattle.neph_guest.proofs.HalfRows.{write_row, read_row, map_row, unmap_row}
 
@@ -152,6 +152,18 @@ module _ {Pool Seat : Type 0} (W : World Pool Seat) (p : Pool) (d : DomLocal Poo
     write_hand step.Unmapped s k met = k
     write_hand step.ReadOnly s k met = k
     write_hand (step.Exposed x) s k met = k
+
+  -- what a step of a write tells of its page
+  pub write_look : (addr : ℕ) (bytes : List ℕ) (s : WriteStep)
+      → (s ≡ step.Done → IfSome (domain_mapping W p d (addr / PAGE_BYTES)) (λ to. is_marked e.own to.pfn ≡ true))
+      → (s ≡ step.Copying → IfSome (domain_mapping W p d (addr / PAGE_BYTES)) (λ to. IsSharedPage W p d to.pfn))
+      → (s ≡ step.Copying → e.own ≡ d.own)
+      → LookDone W p d e.own (command.W addr bytes) (turn_of (row_of_write s))
+  write_look addr bytes step.Done alone shared own = alone refl
+  write_look addr bytes step.Copying alone shared own = (own refl, shared refl)
+  write_look addr bytes step.Unmapped alone shared own = tt
+  write_look addr bytes step.ReadOnly alone shared own = tt
+  write_look addr bytes (step.Exposed x) alone shared own = tt
 
   pub read_hand : (c : Command) (hand : Option Write) (r : Result (List ℕ) Touch) → e.hand ≡ hand → HandDone W q e c hand (turn_of (row_of_read r))
   read_hand c hand (Ok bytes) k = k

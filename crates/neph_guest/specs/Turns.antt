@@ -1,5 +1,5 @@
 -- What a guest's line comes to.
-use Rattle.std.specs.Prelude.{◌≡◌, ◌≢◌, ◌+◌, ◌/◌, ◌%◌, ◌<◌, ◌≤◌, ◌^◌, ◌||◌, is_some, ⊤, ℕ, Bool, true, false, List, Option, Some, None, Result, Ok, Err, IsSome, length}
+use Rattle.std.specs.Prelude.{◌≡◌, ◌≢◌, ◌+◌, ◌/◌, ◌%◌, ◌<◌, ◌≤◌, ◌^◌, ◌⊎◌, ⊤, ℕ, Bool, true, false, List, Option, Some, None, Result, Ok, Err, IsSome, IfSome, length}
 use Rattle.std.specs.FinMap as map
 use Rattle.std.specs.Option.{option_map}
 use Rattle.neph_base.specs.declared.command.Command.{Command}
@@ -10,10 +10,10 @@ use Rattle.neph_base.specs.declared.sizes.TheConstants.{PAGE_BYTES, TABLE_ENTRIE
 use Rattle.neph_model.specs.declared.own.Own.{Own}
 use Rattle.neph_model.specs.declared.told.Told.TheVariants.{Enough}
 use Rattle.neph_model.specs.Own.{LocalResult, mapping_at, w_step, r_step, map_step, unmap_step, settle, is_bad_pfn, has_leaf}
-use Rattle.neph_pool.specs.World.{World}
+use Rattle.neph_pool.specs.World.{World, SameCounts}
 use Rattle.neph_memory.specs.declared.dom_local.DomLocal.{DomLocal}
 use Rattle.neph_memory.specs.Pages.{frame_at}
-use Rattle.neph_memory.specs.Domains.{domain_mapping, domain_leaf, domain_leaf_count}
+use Rattle.neph_memory.specs.Domains.{domain_mapping, domain_leaf, domain_leaf_count, IsUnchanged, IsSharedPage, KeepsPlaces, MakesAlone, TookSpare}
 use Rattle.neph_memory.specs.Mapped.{spare_after_map}
 use Rattle.neph_memory.specs.declared.write.Write.{Write}
 use Rattle.neph_base.specs.declared.reply.Reply.TheVariants as reply
@@ -165,6 +165,17 @@ abbrev pub HandDone : {Pool Seat : Type 0} → World Pool Seat → Pool → DomL
 HandDone W p d c hand turn.Copies = IsLineInHand W p d c × (W.met d.seat ≢ 1)
 HandDone W p d c hand _ = d.hand ≡ hand
 
+-- What a write whose turn came to this tells of the page at its address, in the memory d that it
+-- met. It was done in a page that is the domain's alone in the memory `own` behind it, or it waits
+-- since the page is shared, and d's pages are what they were.
+abbrev pub LookDone : {Pool Seat : Type 0} → World Pool Seat → Pool → DomLocal Pool Seat → Memory
+    → Command → LocalTurn → Type 0
+LookDone W p d own (command.W addr bytes) (turn.Did reply.Done) =
+    IfSome (domain_mapping W p d (addr / PAGE_BYTES)) (λ to. is_marked own to.pfn ≡ true)
+LookDone W p d own (command.W addr bytes) turn.Copies = (own ≡ d.own)
+    × IfSome (domain_mapping W p d (addr / PAGE_BYTES)) (λ to. IsSharedPage W p d to.pfn)
+LookDone W p d own _ _ = ⊤
+
 -- The spare of the domain d behind a turn that came to this. A `map` that was done has made it the
 -- leaf table that was missing.
 abbrev pub spare_after : {Pool Seat : Type 0} → World Pool Seat → Pool → DomLocal Pool Seat
@@ -212,15 +223,27 @@ abbrev pub stage_after_copy : CopyTurn → Stage
 stage_after_copy (copy.Did reply) = Ready
 stage_after_copy copy.LacksFrame = Copying
 
--- a write in hand can be done at once: no other domain has its page, or a spare frame is held
-abbrev pub may_copy : Memory → Option Write → Bool
-may_copy o None = false
-may_copy o (Some write) = is_marked o write.pfn || is_some o.spare
+-- from the memory d in the pool p to the memory e in the pool q
+module _ {Pool Seat : Type 0} (W : World Pool Seat) (p : Pool) (d : DomLocal Pool Seat) (q : Pool)
+    (e : DomLocal Pool Seat) where
+  -- The write in hand was done in its page k, which is the domain's alone then: where the page was
+  -- shared it has moved into the spare, else it lies where it did.
+  pub record HasWritten (k : ℕ) : Type 0 where
+    pub alone : MakesAlone d e k
+    pub place : KeepsPlaces d e ⊎ (IsSharedPage W p d k × TookSpare W p d q e k)
 
--- whether the turn has done the write
-abbrev pub is_copied : CopyTurn → Bool
-is_copied (copy.Did reply) = true
-is_copied copy.LacksFrame = false
+  -- The write in hand waits for a frame: its page k is shared, and no spare is held. Nothing has
+  -- changed but what the seat's look met.
+  pub record WaitsForFrame (k : ℕ) : Type 0 where
+    pub page : IsSharedPage W p d k
+    pub spare : d.own.spare ≡ None
+    pub same : IsUnchanged W p d q e
+    pub counts : SameCounts W p q
+
+  -- what a turn of a guest whose write is in hand has done to the memory
+  abbrev pub PlaceDone : CopyTurn → Type 0
+  PlaceDone (copy.Did reply) = IfSome d.hand (λ h. HasWritten h.pfn)
+  PlaceDone copy.LacksFrame = IfSome d.hand (λ h. WaitsForFrame h.pfn)
 
 -- a row has refused or done a command of the own half o, which is then `new`
 abbrev pub Settles : (Own → Type 0) → Own × Reply → Reply → Type 0

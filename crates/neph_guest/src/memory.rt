@@ -6,7 +6,7 @@ ghost use Rattle.neph_model.specs.WellFormed.{FitsPage};
 ghost use Rattle.neph_pool.specs.World.{World, SameCounts};
 ghost use Rattle.neph_memory.specs.Domains.{IsStanding, KeepsSeats, IsUnchanged};
 ghost use Rattle.neph_guest.specs.OwnHalf.{IsOwnMemory};
-ghost use Rattle.neph_guest.specs.Turns.{RowDone, RowDoneOrLacks, HandDone, HasLeafRoom, IsMap, IsWithoutSpare, memory_step, spare_after, turn_of};
+ghost use Rattle.neph_guest.specs.Turns.{RowDone, RowDoneOrLacks, HandDone, LookDone, HasLeafRoom, IsMap, IsWithoutSpare, memory_step, spare_after, turn_of};
 
 use crate::row::{Row, row_of_map, row_of_read, row_of_unmap, row_of_write};
 use neph_base::{Command, Mode, NoMemory, PAGE_BYTES, Pfn, Piece, VAddr, Vpn};
@@ -22,6 +22,8 @@ fn write<P: FramePool>(pool: &mut P, d: &mut DomLocal<P>, addr: VAddr, bytes: &P
         → RowDone (IsOwnMemory P.world pool.new d.new) o (command.W addr bytes.now)
         (memory_step o (command.W addr bytes.now)) result }
     ensures hand { HandDone P.world pool.new d.new (command.W addr bytes.now) d.old.hand
+        (turn_of result) }
+    ensures look { LookDone P.world pool.old d.old d.new.own (command.W addr bytes.now)
         (turn_of result) }
     ensures pages { d.new.own.map.pages ≡ d.old.own.map.pages }
     ensures spare { d.new.own.spare ≡ d.old.own.spare }
@@ -125,6 +127,8 @@ pub fn memory_row<P: FramePool>(
         → RowDoneOrLacks (IsOwnMemory P.world pool.new d.new) o command.now
         (memory_step o command.now) result }
     ensures hand { IfOk result (λ row. HandDone P.world pool.new d.new command.now d.old.hand
+        (turn_of row)) }
+    ensures look { IfOk result (λ row. LookDone P.world pool.old d.old d.new.own command.now
         (turn_of row)) }
     ensures spare { IfOk result (λ row. d.new.own.spare
         ≡ spare_after P.world pool.old d.old command.now (turn_of row)) }

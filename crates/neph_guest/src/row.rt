@@ -39,7 +39,7 @@ pub enum LocalTurn {
 pub enum CopyTurn {
     /// The write is done, and the guest has gone on.
     Did(Reply),
-    /// The page may be in other domains, and no spare frame is held. Nothing has changed.
+    /// Another domain has the page too, and no spare frame is held. Nothing has changed.
     LacksFrame,
 }
 

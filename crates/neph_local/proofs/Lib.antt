@@ -11,3 +11,8 @@ pub mod Tabling
 pub mod Sprouted
 pub mod Wording
 pub mod Growing
+pub mod Restoring
+pub mod Later
+pub mod Tallying
+pub mod Halving
+pub mod Counting

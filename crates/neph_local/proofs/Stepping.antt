@@ -19,6 +19,8 @@ use Rattle.neph_memory.specs.Domains.{IsStanding, IsUnchanged, domain_mapping, d
 use Rattle.neph_memory.specs.Building.{IsAmong, Builds}
 use Rattle.neph_memory.proofs.Standing.{moved_shown, moved_page}
 use Rattle.neph_memory.proofs.Rooming.{room_after}
+use Rattle.neph_memory.proofs.Keeping.{shared_same, shared_trans}
+use Rattle.neph_memory.specs.Shared.{KeepsShared}
 use Rattle.neph_local.specs.Copies.{IsChildStep}
 
 or_left : (b c : Bool) → b ≡ true → (b || c) ≡ true
@@ -98,13 +100,15 @@ module _ {Pool Seat : Type 0} (W : World Pool Seat) where
   unchanged_page p d q e u x = moved_page (W.entries p d.seat) (W.entries q e.seat) d.own e.own x u.entries u.own
 
   -- a call on the parent's seat that leaves its memory as it was
-  pub step_parent : (p : Pool) (d c : DomLocal Pool Seat) (q : Pool) (e : DomLocal Pool Seat) → Moves W p d.seat q e.seat → IsUnchanged W p d q e → SameCounts W p q → IsChildStep W p d c q e c
-  step_parent p d c q e m u s = record { parent = u; names = refl; id = refl; hand = refl; others = spares_left (W.names d.seat) (W.names c.seat) p q m.others; counts = s }
+  pub step_parent : (p : Pool) (d c : DomLocal Pool Seat) (q : Pool) (e : DomLocal Pool Seat) → W.fits p c.seat → IsApart (W.names d.seat) (W.names c.seat) → Moves W p d.seat q e.seat → IsUnchanged W p d q e → SameCounts W p q → IsChildStep W p d c q e c
+  step_parent p d c q e f a m u s = record { parent = u; fits = m.others.fits c.seat f a; names = refl; id = refl; hand = refl; shared = shared_same _ _ (m.others.entries c.seat f a); others = spares_left (W.names d.seat) (W.names c.seat) p q m.others; counts = s }
 
   -- a call on the child's seat
   pub step_child : (p : Pool) (d c : DomLocal Pool Seat) (q : Pool) (k : DomLocal Pool Seat) → W.fits p d.seat → IsApart (W.names c.seat) (W.names d.seat) → Moves W p c.seat q k.seat
-      → k.id ≡ c.id → k.hand ≡ c.hand → SameCounts W p q → IsChildStep W p d c q d k
-  step_child p d c q k f a m id hand s = record {
+      → k.id ≡ c.id → k.hand ≡ c.hand → SameCounts W p q → KeepsShared W p c q k → IsChildStep W p d c q d k
+  step_child p d c q k f a m id hand s h = record {
+    shared = h;
+    fits = m.fits;
     parent = unchanged_spared (W.names c.seat) p q d f m.others a;
     names = m.names;
     id = id;
@@ -116,20 +120,24 @@ module _ {Pool Seat : Type 0} (W : World Pool Seat) where
   pub step_trans : (p : Pool) (d c : DomLocal Pool Seat) (q : Pool) (e k : DomLocal Pool Seat) (r : Pool) (f l : DomLocal Pool Seat) → IsChildStep W p d c q e k → IsChildStep W q e k r f l → IsChildStep W p d c r f l
   step_trans p d c q e k r f l h j = record {
     parent = unchanged_trans p d q e r f h.parent j.parent;
+    fits = j.fits;
     names = j.names ∙ h.names;
     id = j.id ∙ h.id;
     hand = j.hand ∙ h.hand;
+    shared = shared_trans (W.entries p c.seat) (W.entries q k.seat) (W.entries r l.seat) h.shared j.shared;
     others = spares_trans (both_names (W.names d.seat) (W.names c.seat)) p q r h.others
         (subst (λ (ns : ℕ → Bool). Spares W (both_names ns (W.names c.seat)) q r) h.parent.names (subst (λ (ns : ℕ → Bool). Spares W (both_names (W.names e.seat) ns) q r) h.names j.others));
     counts = same_counts_trans W _ _ _ h.counts j.counts;
   }
 
-  pub step_none : (p : Pool) (d c : DomLocal Pool Seat) → W.fits p d.seat → IsChildStep W p d c p d c
-  step_none p d c f = record {
+  pub step_none : (p : Pool) (d c : DomLocal Pool Seat) → W.fits p d.seat → W.fits p c.seat → IsChildStep W p d c p d c
+  step_none p d c f g = record {
+    fits = g;
     parent = record { entries = refl; own = refl; root = refl; id = refl; hand = refl; cap = refl; fits = f; names = refl };
     names = refl;
     id = refl;
     hand = refl;
+    shared = shared_same _ _ refl;
     others = record { frames = refl; cap = refl; fits = λ t h a. h; entries = λ t h a. refl };
     counts = record { shares = refl; told = refl };
   }

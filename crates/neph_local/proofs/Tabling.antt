@@ -15,6 +15,7 @@ use Rattle.neph_memory.specs.declared.dom_local.DomLocal.{DomLocal}
 use Rattle.neph_memory.specs.Memory.{mapping, pfn_by, wanted_by, vpn_mapping, page_bytes, leaf_count_below, leaf_count, LeadsTo, IsMade}
 use Rattle.neph_memory.specs.Domains.{IsStanding, IsUnchanged, domain_mapping, domain_leaf, domain_page}
 use Rattle.neph_memory.specs.Building.{Builds}
+use Rattle.neph_memory.specs.Shared.{KeepsShared}
 use Rattle.neph_memory.proofs.Places.{frame_small, page_in_at}
 use Rattle.neph_memory.proofs.Placing.{away_small}
 use Rattle.neph_memory.proofs.Rooming.{leaves_below}
@@ -64,13 +65,13 @@ module _ {Pool Seat : Type 0} (W : World Pool Seat) (p : Pool) (d c : DomLocal P
   looked_page x = ap (λ (es : List (Option Entry)). page_bytes es c.own.map.pages x) looked_entries
 
   pub looked_step : IsChildStep W p d c q e c
-  looked_step = step_parent W p d c q e moves same counts
+  looked_step = step_parent W p d c q e builds.fits away moves same counts
 
   back : IsApart (W.names c.seat) (W.names e.seat)
   back = ids_apart (W.names c.seat) (W.names e.seat) c.id d.id builds.names (same.names ∙ stands.names) (λ h. apart (sym h))
 
-  pub looked_then : (r : Pool) (k : DomLocal Pool Seat) → Moves W q c.seat r k.seat → k.id ≡ c.id → k.hand ≡ c.hand → SameCounts W q r → IsChildStep W p d c r e k
-  looked_then r k m id hand s = step_trans W p d c q e c r e k looked_step (step_child W q e c r k same.fits back m id hand s)
+  pub looked_then : (r : Pool) (k : DomLocal Pool Seat) → Moves W q c.seat r k.seat → k.id ≡ c.id → k.hand ≡ c.hand → SameCounts W q r → KeepsShared W q c r k → IsChildStep W p d c r e k
+  looked_then r k m id hand s h = step_trans W p d c q e c r e k looked_step (step_child W q e c r k same.fits back m id hand s h)
 
 pub leaf_one : (x : Option ℕ) → is_some x ≡ true → leaf_count_of x ≡ 1
 leaf_one None e = absurd (cc)

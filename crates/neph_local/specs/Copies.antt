@@ -1,5 +1,5 @@
 -- A child's memory is built beside its parent's.
-use Rattle.std.specs.Prelude.{◌≡◌, ◌<◌, ◌≤◌, ◌^◌, if◌then◌else◌, ℕ, [], length, nat_lt, is_some, option_map, true, None}
+use Rattle.std.specs.Prelude.{◌≡◌, ◌<◌, ◌≤◌, ◌^◌, if◌then◌else◌, ℕ, [], length, replicate, nat_lt, is_some, option_map, true, None}
 use Rattle.neph_model.specs.Memory.{page_with_identity}
 use Rattle.neph_memory.specs.Memory.{is_marked}
 use Rattle.neph_base.specs.declared.sizes.TheConstants.{TABLE_ENTRIES}
@@ -9,17 +9,46 @@ use Rattle.neph_gmap.specs.GuestPages.{vpns_at}
 use Rattle.neph_memory.specs.declared.dom_local.DomLocal.{DomLocal}
 use Rattle.neph_memory.specs.Pages.{frame_at}
 use Rattle.neph_memory.specs.Domains.{domain_page, domain_mapping, domain_leaf, IsUnchanged}
+use Rattle.neph_memory.specs.Shared.{SharedStays, KeepsShared}
+use Rattle.neph_gmap.specs.declared.page.Page.TheVariants.{Exposed as Away}
+use Rattle.neph_memory.specs.declared.own.Own.{Own}
+use Rattle.neph_local.specs.declared.forking.Fork.{Fork}
 
 -- A step from the memories d and c in the pool p to the memories e and k in the pool q: that of the
--- parent is as it was, and so are all other seats and all counts.
+-- parent is as it was, and so are all other seats and all counts. The child keeps its frames, and
+-- the words of those that it shares.
 pub record IsChildStep {Pool Seat : Type 0} (W : World Pool Seat) (p : Pool)
     (d c : DomLocal Pool Seat) (q : Pool) (e k : DomLocal Pool Seat) : Type 0 where
   pub parent : IsUnchanged W p d q e
+  pub fits : W.fits q k.seat
   pub names : W.names k.seat ≡ W.names c.seat
   pub id : k.id ≡ c.id
   pub hand : k.hand ≡ c.hand
+  pub shared : KeepsShared W p c q k
   pub others : Spares W (both_names (W.names d.seat) (W.names c.seat)) p q
   pub counts : SameCounts W p q
+
+-- The seat t in the pool q is the seat s of the pool p: it has the frames that it had, and the words
+-- of those that it shares.
+pub record KeepsFrames {Pool Seat : Type 0} (W : World Pool Seat) (p : Pool) (s : Seat) (q : Pool)
+    (t : Seat) : Type 0 where
+  pub fits : W.fits q t
+  pub names : W.names t ≡ W.names s
+  pub shared : SharedStays (W.entries p s) (W.entries q t)
+
+-- the fork e is the fork k: the same child, the same frames put aside, and as many pages shared
+pub record IsSameFork {Pool Seat : Type 0} (W : World Pool Seat) (k e : Fork Pool Seat) : Type 0
+  where
+    pub child : e.child ≡ k.child
+    pub next : e.next ≡ k.next
+    pub frames : e.frames.items ≡ k.frames.items
+    pub names : W.names e.seat ≡ W.names k.seat
+
+-- so many pages, all exposed and mapped nowhere, and no spare
+pub record IsBlank (o : Own) (n : ℕ) : Type 0 where
+  pub map : o.map ≡ record { pages = replicate n Away; vpns = replicate n [] }
+  pub marks : length o.marks.items ≡ n
+  pub spare : o.spare ≡ None
 
 -- the child c maps the virtual pages below m as its parent d does, and no other
 abbrev pub MapsBelow : {Pool Seat : Type 0} → World Pool Seat → Pool → DomLocal Pool Seat

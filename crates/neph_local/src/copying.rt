@@ -4,6 +4,7 @@ ghost use Rattle.neph_pool.specs.World.{World, SameCounts};
 ghost use Rattle.neph_memory.specs.Memory.{mode_of};
 ghost use Rattle.neph_memory.specs.Domains.{IsStanding, domain_mapping, domain_leaf, domain_leaf_count, KeepsPages, KeepsLeaves, KeepsSeats};
 ghost use Rattle.neph_memory.specs.Building.{IsBuilding};
+ghost use Rattle.neph_memory.specs.Shared.{KeepsShared};
 ghost use Rattle.neph_local.specs.Copies.{IsChildStep, MapsBelow};
 ghost use Rattle.neph_local.specs.Forks.{leaf_count_of};
 
@@ -47,6 +48,7 @@ fn put_mapping<P: FramePool>(
     ensures frames { c.new.frames ≡ c.old.frames }
     ensures id { c.new.memory.id ≡ c.old.memory.id }
     ensures hand { c.new.memory.hand ≡ c.old.memory.hand }
+    ensures shared { KeepsShared P.world pool.old c.old.memory pool.new c.new.memory }
     ensures moves { KeepsSeats P.world pool.old c.old.memory pool.new c.new.memory }
     ensures counts { SameCounts P.world pool.old pool.new }
 {

@@ -2,8 +2,8 @@
 ghost use Rattle.std.specs.Prelude.{ℕ, true, ◌≡◌, ◌≢◌, ◌+◌, ◌-◌, ◌<◌, ◌≤◌, ◌^◌, ◌↔◌, IsSome, IsTrue, IfSome, is_some, min, length, if◌then◌else◌, None, false};
 ghost use Rattle.neph_pool.specs.Entries.{hold_at, is_here, IsSoleAt, entry_count};
 ghost use Rattle.neph_pool.specs.Handing.{AreDistinct};
-ghost use Rattle.neph_pool.specs.Names.{only_name};
-ghost use Rattle.neph_pool.specs.World.{World};
+ghost use Rattle.neph_pool.specs.Names.{only_name, both_names};
+ghost use Rattle.neph_pool.specs.World.{World, Stays, Spares};
 ghost use Rattle.neph_memory.specs.Pages.{frame_at};
 ghost use Rattle.neph_memory.specs.Domains.{IsStanding, domain_leaf_count, KeepsPages, KeepsMap, KeepsLeaves};
 ghost use Rattle.neph_memory.specs.Building.{IsAmong};
@@ -82,6 +82,9 @@ fn share_next<P: FramePool>(pool: &mut P, d: &mut DomLocal<P>, k: &mut Fork<P>, 
     ensures leaves { KeepsLeaves P.world pool.old d.old pool.new d.new }
     ensures id { d.new.id ≡ d.old.id }
     ensures hand { d.new.hand ≡ d.old.hand }
+    ensures seat { Stays P.world pool.new d.old.seat d.new.seat }
+    ensures others { Spares P.world
+        (both_names (P.world.names d.old.seat) (P.world.names k.old.seat)) pool.old pool.new }
     ensures shares { P.world.shares pool.new ≡ min (P.world.shares pool.old + 1) (2 ^ 64 - 1) }
 {
     let frame = frame_for(&d.own.map, p).unwrap();
@@ -105,7 +108,7 @@ fn next_local(map: &GuestMap, from: u16) -> Option<Pfn>
     None
 }
 
-/// Shares the next local page of a fork. False exactly where none is left; nothing changes then.
+/// Shares the next local page of a fork. False exactly where none is left: nothing changes then.
 pub fn fork_page<P: FramePool>(pool: &mut P, d: &mut DomLocal<P>, k: &mut Fork<P>) -> bool
     requires stands { IsStanding P.world pool.old d.old }
     requires fork { IsForkInHand P.world pool.old d.old k.old }
@@ -114,7 +117,8 @@ pub fn fork_page<P: FramePool>(pool: &mut P, d: &mut DomLocal<P>, k: &mut Fork<P
     ensures shared { result ≡ true
         → IsNextPage d.old.own.map.pages k.old.next (k.new.next - 1) }
     ensures done { result ≡ false → NoPageLeft d.old.own.map.pages k.old.next }
-    ensures same { result ≡ false → k.new ≡ k.old }
+    ensures same { result ≡ false
+        → (k.new ≡ k.old) × (d.new ≡ d.old) × (pool.new ≡ pool.old) }
     ensures frames { k.new.frames ≡ k.old.frames }
     ensures child { k.new.child ≡ k.old.child }
     ensures map { d.new.own.map ≡ d.old.own.map }
@@ -124,6 +128,9 @@ pub fn fork_page<P: FramePool>(pool: &mut P, d: &mut DomLocal<P>, k: &mut Fork<P
     ensures leaves { KeepsLeaves P.world pool.old d.old pool.new d.new }
     ensures id { d.new.id ≡ d.old.id }
     ensures hand { d.new.hand ≡ d.old.hand }
+    ensures seat { Stays P.world pool.new d.old.seat d.new.seat }
+    ensures others { Spares P.world
+        (both_names (P.world.names d.old.seat) (P.world.names k.old.seat)) pool.old pool.new }
     ensures shares { P.world.shares pool.new ≡ (if result
         then min (P.world.shares pool.old + 1) (2 ^ 64 - 1) else P.world.shares pool.old) }
 {

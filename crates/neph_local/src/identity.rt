@@ -8,6 +8,7 @@ ghost use Rattle.neph_pool.specs.World.{World, IsSeat, Stays, Spares, SameCounts
 ghost use Rattle.neph_memory.specs.Pages.{frame_at};
 ghost use Rattle.neph_memory.specs.Memory.{is_marked};
 ghost use Rattle.neph_memory.specs.Domains.{IsStanding, domain_page, KeepsOtherPages, KeepsMap, KeepsLeaves, KeepsSeats};
+ghost use Rattle.neph_memory.specs.Shared.{KeepsShared};
 ghost use Rattle.neph_local.specs.Copies.{IsChildStep};
 
 use byteorder::{ByteOrder, LittleEndian};
@@ -90,6 +91,7 @@ pub fn write_identity<P: FramePool>(pool: &mut P, d: &mut DomLocal<P>, parent: D
     ensures own { d.new.own ≡ d.old.own }
     ensures id { d.new.id ≡ d.old.id }
     ensures hand { d.new.hand ≡ d.old.hand }
+    ensures shared { KeepsShared P.world pool.old d.old pool.new d.new }
     ensures moves { KeepsSeats P.world pool.old d.old pool.new d.new }
     ensures counts { SameCounts P.world pool.old pool.new }
 {

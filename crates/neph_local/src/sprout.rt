@@ -1,5 +1,5 @@
 // A child's memory before it has pages.
-ghost use Rattle.std.specs.Prelude.{◌≡◌, ◌+◌, ◌<◌, ◌≤◌, ◌^◌, ℕ, [], Some, None, IfOk, length, replicate, slice_get};
+ghost use Rattle.std.specs.Prelude.{◌≡◌, ◌+◌, ◌<◌, ◌≤◌, ◌^◌, ℕ, [], Some, None, length, replicate, slice_get};
 ghost use Rattle.neph_pool.specs.Bytes.{bytes_at};
 ghost use Rattle.neph_pool.specs.Handing.{AreDistinct};
 ghost use Rattle.neph_pool.specs.World.{World, Moves, Spares, SameCounts};
@@ -7,17 +7,17 @@ ghost use Rattle.neph_ptab.specs.Tables.{leaf_at, walk_at};
 ghost use Rattle.neph_memory.specs.Pages.{frame_at};
 ghost use Rattle.neph_memory.specs.Domains.{IsStanding, domain_page, domain_leaf_count};
 ghost use Rattle.neph_memory.specs.Building.{IsBuilding};
-ghost use Rattle.neph_local.specs.Copies.{IsSprout};
+ghost use Rattle.neph_memory.specs.Shared.{SharedStays};
+ghost use Rattle.neph_local.specs.Copies.{IsBlank, IsSprout};
 ghost use Rattle.neph_local.specs.Forks.{IsForkOf, IsForkInHand, NoPageLeft, Adopts, MayAdopt};
 
 use crate::adopted::adopt_all;
 use crate::forking::Fork;
-use neph_base::{FrameNo, NoMemory, TABLE_ENTRIES};
+use neph_base::{FrameNo, TABLE_ENTRIES};
 use neph_gmap::Page;
 use neph_memory::{DomLocal, Own, Room};
 use neph_pool::FramePool;
 use neph_ptab::{Tables, Walk};
-use std::alloc::Global;
 
 /// A child that is built: its memory so far, and the frames that wait.
 #[derive(Drop)]
@@ -53,6 +53,8 @@ fn sprout_root<P: FramePool>(pool: &mut P, d: &DomLocal<P>, k: &mut Fork<P>, own
     ensures once { AreDistinct k.new.frames.items }
     ensures left { length k.new.frames.items + 1 ≡ length k.old.frames.items }
     ensures child { k.new.child ≡ k.old.child }
+    ensures shared { SharedStays (P.world.entries pool.old k.old.seat)
+        (P.world.entries pool.new k.new.seat) }
     ensures moves { Moves P.world pool.old k.old.seat pool.new k.new.seat }
     ensures counts { SameCounts P.world pool.old pool.new }
 {
@@ -61,34 +63,36 @@ fn sprout_root<P: FramePool>(pool: &mut P, d: &DomLocal<P>, k: &mut Fork<P>, own
 }
 
 /// Where no page of a fork is left: the child with its root, and with its parent's pages but for
-/// the identity page.
+/// the identity page. It is built in these blank pages.
 pub fn sprout<P: FramePool>(
-    alloc: Global,
     pool: &mut P,
     d: &DomLocal<P>,
     k: Fork<P>,
-) -> Result<Child<P>, NoMemory>
+    own: Own,
+    room: Room,
+) -> Child<P>
     requires stands { IsStanding P.world pool.old d.now }
     requires fork { IsForkInHand P.world pool.old d.now k }
     requires done { NoPageLeft d.now.own.map.pages k.next }
-    ensures builds { IfOk result (λ c. IsBuilding P.world pool.new c.memory c.frames.items) }
-    ensures sprout { IfOk result (λ c. IsSprout P.world pool.new d.now c.memory) }
-    ensures identity { IfOk result (λ c. slice_get c.memory.own.map.pages 0 ≡ Some Page.Exposed) }
-    ensures left { IfOk result
-        (λ c. length c.frames.items ≡ domain_leaf_count P.world pool.old d.now + 1) }
-    ensures id { IfOk result (λ c. c.memory.id ≡ k.child) }
-    ensures hand { IfOk result (λ c. c.memory.hand ≡ None) }
-    ensures spare { IfOk result (λ c. c.memory.own.spare ≡ None) }
+    requires blank { IsBlank own (length d.now.own.map.pages) }
+    ensures builds { IsBuilding P.world pool.new result.memory result.frames.items }
+    ensures sprout { IsSprout P.world pool.new d.now result.memory }
+    ensures identity { slice_get result.memory.own.map.pages 0 ≡ Some Page.Exposed }
+    ensures left { length result.frames.items ≡ domain_leaf_count P.world pool.old d.now + 1 }
+    ensures id { result.memory.id ≡ k.child }
+    ensures hand { result.memory.hand ≡ None }
+    ensures spare { result.memory.own.spare ≡ None }
+    ensures shared { SharedStays (P.world.entries pool.old k.seat)
+        (P.world.entries pool.new result.memory.seat) }
     ensures others { Spares P.world (P.world.names k.seat) pool.old pool.new }
     ensures counts { SameCounts P.world pool.old pool.new }
 {
     let pages = d.own.map.len() as u16;
     let mut k = k;
-    let mut own = Own::new(alloc, pages)?;
-    let room = Room::new(alloc)?;
+    let mut own = own;
     let tables = sprout_root(pool, d, &mut k, &own);
     adopt_all(pool, &k, tables.root, &mut own, &d.own.map, pages);
-    Ok(Child {
+    Child {
         memory: DomLocal {
             id: k.child,
             seat: k.seat,
@@ -98,5 +102,5 @@ pub fn sprout<P: FramePool>(
             room,
         },
         frames: k.frames,
-    })
+    }
 }

@@ -38,3 +38,13 @@ spares_both W ns ms ks p q r h e k =
       fits = λ t f a. k'.fits t (h.fits t f (λ d x y. a d (or_left (ns d) (ks d) x) y)) a;
       entries = λ t f a. k'.entries t (h.fits t f (λ d x y. a d (or_left (ns d) (ks d) x) y)) a ∙ h.entries t f (λ d x y. a d (or_left (ns d) (ks d) x) y);
     }
+
+-- a call on one seat and another, and then one on the first
+pub both_spare : {Pool Seat : Type 0} (W : World Pool Seat) (ns ms ks : ℕ → Bool) (p q r : Pool) → Spares W (both_names ns ks) p q → ms ≡ ns → Spares W ms q r → Spares W (both_names ns ks) p r
+both_spare W ns ms ks p q r h e k =
+    let k' = subst (λ (xs : ℕ → Bool). Spares W xs q r) e k in record {
+      frames = k'.frames ∙ h.frames;
+      cap = k'.cap ∙ h.cap;
+      fits = λ t f a. k'.fits t (h.fits t f a) (λ d x y. a d (or_left (ns d) (ks d) x) y);
+      entries = λ t f a. k'.entries t (h.fits t f a) (λ d x y. a d (or_left (ns d) (ks d) x) y) ∙ h.entries t f a;
+    }

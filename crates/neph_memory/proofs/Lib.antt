@@ -21,3 +21,5 @@ pub mod Spending
 pub mod Counting
 pub mod Rooming
 pub mod HalfParts
+pub mod Telling
+pub mod Keeping

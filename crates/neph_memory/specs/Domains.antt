@@ -1,5 +1,5 @@
 -- A domain's memory in a pool, and what a call leaves of it as it was.
-use Rattle.std.specs.Prelude.{◌≡◌, ◌≢◌, ◌<◌, ◌^◌, ℕ, List, if◌then◌else◌, ◌==◌, IfSome, None, slice_index}
+use Rattle.std.specs.Prelude.{◌≡◌, ◌≢◌, ◌<◌, ◌≤◌, ◌^◌, ℕ, true, false, List, length, if◌then◌else◌, ◌==◌, IfSome, IsSome, None, slice_index}
 use Rattle.std.specs.declared.option.Option.{Option}
 use Rattle.neph_base.specs.declared.sizes.TheConstants.{TABLE_ENTRIES}
 use Rattle.neph_model.specs.declared.memory.Mapping.{Mapping}
@@ -8,7 +8,7 @@ use Rattle.neph_pool.specs.World.{World, Moves}
 use Rattle.neph_ptab.specs.declared.walk.Walk.{Walk}
 use Rattle.neph_ptab.specs.Tables.{leaf_at, walk_at}
 use Rattle.neph_memory.specs.declared.dom_local.DomLocal.{DomLocal}
-use Rattle.neph_memory.specs.Memory.{vpn_mapping, page_bytes, leaf_count, Stands}
+use Rattle.neph_memory.specs.Memory.{vpn_mapping, page_bytes, leaf_count, is_marked, Stands}
 use Rattle.neph_memory.specs.Pages.{frame_at}
 
 -- a domain's memory stands in the pool
@@ -39,6 +39,19 @@ domain_leaf W p d i = leaf_at (W.entries p d.seat) d.tables.root i
 abbrev pub domain_leaf_count : {Pool Seat : Type 0} → World Pool Seat → Pool → DomLocal Pool Seat
     → ℕ
 domain_leaf_count W p d = leaf_count (W.entries p d.seat) d.tables.root
+
+-- what is so of the count of references of the page k's frame, where the pool tells its counts
+abbrev pub IfTold : {Pool Seat : Type 0} → World Pool Seat → Pool → DomLocal Pool Seat → ℕ
+    → (ℕ → Type 0) → Type 0
+IfTold W p d k IsSo = IfSome (W.told p)
+    (λ counts. IfSome (frame_at d.own.map.pages k) (λ f. IsSo (slice_index counts f)))
+
+-- The page k isn't marked, and its frame has two references or more, where the pool tells its
+-- counts.
+pub record IsSharedPage {Pool Seat : Type 0} (W : World Pool Seat) (p : Pool)
+    (d : DomLocal Pool Seat) (k : ℕ) : Type 0 where
+  pub mark : is_marked d.own k ≡ false
+  pub count : IfTold W p d k (λ n. 2 ≤ n)
 
 -- from the memory d in the pool p to the memory e in the pool q
 module _ {Pool Seat : Type 0} (W : World Pool Seat) (p : Pool) (d : DomLocal Pool Seat) (q : Pool)
@@ -84,5 +97,16 @@ module _ {Pool Seat : Type 0} (W : World Pool Seat) (p : Pool) (d : DomLocal Poo
   pub record TookSpare (k : ℕ) : Type 0 where
     pub page : frame_at e.own.map.pages k ≡ d.own.spare
     pub spare : e.own.spare ≡ (if W.met e.seat == 1 then frame_at d.own.map.pages k else None)
-    pub met : IfSome (W.told p) (λ counts. IfSome (frame_at d.own.map.pages k)
-        (λ f. W.met e.seat ≡ slice_index counts f))
+    pub met : IfTold W p d k (λ n. W.met e.seat ≡ n)
+
+-- each page lies where it did, and the spare is what it was
+pub record KeepsPlaces {Pool Seat : Type 0} (d e : DomLocal Pool Seat) : Type 0 where
+  pub map : e.own.map ≡ d.own.map
+  pub spare : e.own.spare ≡ d.own.spare
+
+-- the page k is the domain's alone in the memory e, and all other pages lie where they did in d
+pub record MakesAlone {Pool Seat : Type 0} (d e : DomLocal Pool Seat) (k : ℕ) : Type 0 where
+  pub mark : is_marked e.own k ≡ true
+  pub local : IsSome (frame_at e.own.map.pages k)
+  pub others : (x : ℕ) → x ≢ k → frame_at e.own.map.pages x ≡ frame_at d.own.map.pages x
+  pub count : length e.own.map.pages ≡ length d.own.map.pages

@@ -5,3 +5,4 @@ pub mod Domains
 pub mod Building
 pub mod Mapped
 pub mod OwnHalf
+pub mod Shared

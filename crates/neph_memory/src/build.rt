@@ -8,6 +8,7 @@ ghost use Rattle.neph_memory.specs.Pages.{frame_at};
 ghost use Rattle.neph_memory.specs.Memory.{is_marked, mode_of};
 ghost use Rattle.neph_memory.specs.Domains.{domain_page, domain_mapping, domain_walk, domain_leaf, KeepsPages, KeepsOtherPages, KeepsMap, KeepsLeaves, KeepsHolds, KeepsSeats};
 ghost use Rattle.neph_memory.specs.Building.{IsBuilding, IsMadeOf, RestOf, lead_to};
+ghost use Rattle.neph_memory.specs.Shared.{KeepsShared};
 
 use crate::dom_local::DomLocal;
 use crate::own::Own;
@@ -40,6 +41,7 @@ pub fn place<P: FramePool>(pool: &mut P, d: &mut DomLocal<P>, p: Pfn, frames: &m
     ensures spare { d.new.own.spare ≡ d.old.own.spare }
     ensures id { d.new.id ≡ d.old.id }
     ensures hand { d.new.hand ≡ d.old.hand }
+    ensures shared { KeepsShared P.world pool.old d.old pool.new d.new }
     ensures moves { KeepsSeats P.world pool.old d.old pool.new d.new }
     ensures counts { SameCounts P.world pool.old pool.new }
 {
@@ -66,6 +68,7 @@ pub fn add_leaf<P: FramePool>(pool: &mut P, d: &mut DomLocal<P>, v: Vpn, frames:
         → domain_leaf P.world pool.new d.new i ≡ domain_leaf P.world pool.old d.old i }
     ensures id { d.new.id ≡ d.old.id }
     ensures hand { d.new.hand ≡ d.old.hand }
+    ensures shared { KeepsShared P.world pool.old d.old pool.new d.new }
     ensures moves { KeepsSeats P.world pool.old d.old pool.new d.new }
     ensures counts { SameCounts P.world pool.old pool.new }
 {
@@ -146,6 +149,7 @@ pub fn put<P: FramePool>(
     ensures spare { d.new.own.spare ≡ d.old.own.spare }
     ensures id { d.new.id ≡ d.old.id }
     ensures hand { d.new.hand ≡ d.old.hand }
+    ensures shared { KeepsShared P.world pool.old d.old pool.new d.new }
     ensures moves { KeepsSeats P.world pool.old d.old pool.new d.new }
     ensures counts { SameCounts P.world pool.old pool.new }
 {

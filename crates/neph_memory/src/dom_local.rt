@@ -8,7 +8,8 @@ ghost use Rattle.neph_pool.specs.World.{World, IsSeat, Moves, Stays, Spares, Sam
 ghost use Rattle.neph_memory.specs.Pages.{frame_at};
 ghost use Rattle.neph_memory.specs.Memory.{is_marked, IsPageAt};
 ghost use Rattle.neph_memory.specs.Steps.{read_answer, IsWriteStep, with_write, page_after_step, hand_after_step};
-ghost use Rattle.neph_memory.specs.Domains.{IsStanding, domain_page, domain_mapping, domain_walk, KeepsPages, KeepsMap, KeepsLeaves, KeepsSeats, TookSpare};
+ghost use Rattle.neph_memory.specs.Domains.{IsStanding, domain_page, domain_mapping, domain_walk, KeepsPages, KeepsMap, KeepsLeaves, KeepsSeats, IsSharedPage, TookSpare, MakesAlone};
+ghost use Rattle.neph_memory.specs.Shared.{KeepsShared};
 
 use crate::loans::lend;
 use crate::own::{Own, frame_for, kept};
@@ -152,6 +153,7 @@ impl<P: FramePool> DomLocal<P> {
         ensures id { self.new.id ≡ self.old.id }
         ensures hand { self.new.hand ≡ self.old.hand }
         ensures met { P.world.met self.new.seat ≡ P.world.met self.old.seat }
+        ensures shared { KeepsShared P.world pool.old self.old pool.new self.new }
         ensures moves { KeepsSeats P.world pool.old self.old pool.new self.new }
         ensures counts { SameCounts P.world pool.old pool.new }
     {
@@ -175,6 +177,10 @@ impl<P: FramePool> DomLocal<P> {
         ensures moved { OnOk result (IfSome self.old.hand
             (λ h. is_marked self.old.own h.pfn ≡ false
             → TookSpare P.world pool.old self.old pool.new self.new h.pfn)) }
+        ensures stays { OnOk result (IfSome self.old.hand
+            (λ h. is_marked self.old.own h.pfn ≡ true → self.new.own ≡ self.old.own)) }
+        ensures alone { OnOk result (IfSome self.old.hand
+            (λ h. MakesAlone self.old self.new h.pfn)) }
         ensures same { OnErr result (KeepsPages P.world pool.old self.old pool.new self.new) }
         ensures mappings { KeepsMap P.world pool.old self.old pool.new self.new }
         ensures done { OnOk result (self.new.hand ≡ None) }
@@ -209,6 +215,11 @@ impl<P: FramePool> DomLocal<P> {
             → self.new.hand ≡ (if result then self.old.hand
             else Some (record { pfn = p; at = at; bytes = bytes.now })) }
         ensures met { result ≡ false → P.world.met self.new.seat ≢ 1 }
+        ensures alone { result ≡ true → (p : ℕ) → frame_at self.old.own.map.pages p ≡ Some frame
+            → is_marked self.new.own p ≡ true }
+        ensures shared { result ≡ false → (p : ℕ) → frame_at self.old.own.map.pages p ≡ Some frame
+            → IsSharedPage P.world pool.old self.old p }
+        ensures own { result ≡ false → self.new.own ≡ self.old.own }
         ensures map { self.new.own.map ≡ self.old.own.map }
         ensures spare { self.new.own.spare ≡ self.old.own.spare }
         ensures leaves { KeepsLeaves P.world pool.old self.old pool.new self.new }
@@ -245,6 +256,7 @@ impl<P: FramePool> DomLocal<P> {
         ensures own { self.new.own ≡ self.old.own }
         ensures id { self.new.id ≡ self.old.id }
         ensures hand { self.new.hand ≡ self.old.hand }
+        ensures shared { KeepsShared P.world pool.old self.old pool.new self.new }
         ensures moves { KeepsSeats P.world pool.old self.old pool.new self.new }
         ensures counts { SameCounts P.world pool.old pool.new }
     {
@@ -289,6 +301,13 @@ impl<P: FramePool> DomLocal<P> {
             ≡ hand_after_step result (domain_mapping P.world pool.old self.old (v / PAGE_BYTES))
             (v % PAGE_BYTES) bytes.now self.old.hand }
         ensures met { result ≡ WriteStep.Copying → P.world.met self.new.seat ≢ 1 }
+        ensures alone { result ≡ WriteStep.Done
+            → IfSome (domain_mapping P.world pool.old self.old (v / PAGE_BYTES))
+            (λ to. is_marked self.new.own to.pfn ≡ true) }
+        ensures shared { result ≡ WriteStep.Copying
+            → IfSome (domain_mapping P.world pool.old self.old (v / PAGE_BYTES))
+            (λ to. IsSharedPage P.world pool.old self.old to.pfn) }
+        ensures own { result ≡ WriteStep.Copying → self.new.own ≡ self.old.own }
         ensures map { self.new.own.map ≡ self.old.own.map }
         ensures spare { self.new.own.spare ≡ self.old.own.spare }
         ensures leaves { KeepsLeaves P.world pool.old self.old pool.new self.new }
@@ -380,6 +399,9 @@ impl<P: FramePool> DomLocal<P> {
             × (words_at (P.world.entries pool.new to.new) g
             ≡ words_at (P.world.entries pool.old to.old) g) }
         ensures to { Stays P.world pool.new to.old to.new }
+        ensures seat { Stays P.world pool.new self.old.seat self.new.seat }
+        ensures others { Spares P.world
+            (both_names (P.world.names self.old.seat) (P.world.names to.old)) pool.old pool.new }
         ensures leaves { KeepsLeaves P.world pool.old self.old pool.new self.new }
         ensures id { self.new.id ≡ self.old.id }
         ensures hand { self.new.hand ≡ self.old.hand }

@@ -3,7 +3,7 @@ ghost use Rattle.std.specs.Prelude.{◌≡◌, ◌≢◌, ◌/◌, ◌+◌, ◌<
 ghost use Rattle.neph_pool.specs.World.{World, SameCounts};
 ghost use Rattle.neph_memory.specs.Pages.{frame_at};
 ghost use Rattle.neph_memory.specs.Memory.{is_marked, mapping, mode_of, pfn_by, wanted_by};
-ghost use Rattle.neph_memory.specs.Domains.{IsStanding, domain_mapping, domain_leaf, KeepsPages, KeepsMap, KeepsLeaves, KeepsSeats, IsUnchanged};
+ghost use Rattle.neph_memory.specs.Domains.{IsStanding, domain_mapping, domain_leaf, KeepsPages, KeepsMap, KeepsLeaves, KeepsSeats, IsUnchanged, IfTold, IsSharedPage};
 
 use crate::dom_local::DomLocal;
 use crate::own::frame_for;
@@ -71,7 +71,7 @@ impl<P: FramePool> DomLocal<P> {
     }
 
     /// Whether a local page is marked as the domain's alone, after a look at the count of its frame
-    /// where it wasn't. Nothing changes but its mark.
+    /// where it wasn't. Nothing changes but its mark, which a look that found one reference sets.
     pub fn look_page(&mut self, pool: &mut P, p: Pfn) -> bool
         requires stands { IsStanding P.world pool.old self.old }
         requires local { IsSome (frame_at self.old.own.map.pages p) }
@@ -80,6 +80,11 @@ impl<P: FramePool> DomLocal<P> {
         ensures marked { is_marked self.old.own p ≡ true → result ≡ true }
         ensures met { is_marked self.old.own p ≡ false
             → IsTrue result ↔ (P.world.met self.new.seat ≡ 1) }
+        ensures told { is_marked self.old.own p ≡ false
+            → IfTold P.world pool.old self.old p (λ n. IsTrue result ↔ (n ≡ 1)) }
+        ensures shared { result ≡ false → IsSharedPage P.world pool.old self.old p }
+        ensures same { result ≡ false
+            → IsUnchanged P.world pool.old self.old pool.new self.new }
         ensures bytes { KeepsPages P.world pool.old self.old pool.new self.new }
         ensures mappings { KeepsMap P.world pool.old self.old pool.new self.new }
         ensures leaves { KeepsLeaves P.world pool.old self.old pool.new self.new }

@@ -1,4 +1,4 @@
-use Rattle.std.proofs.Common.{OnErr, Ok, Err, subst}
+use Rattle.std.proofs.Common.{OnErr, IfOk, Ok, Err, subst}
 use Rattle.std.specs.Bool.{⊤}
 use Rattle.std.specs.declared.result.Result.{Result}
 use Rattle.neph_base.specs.declared.memory.NoMemory.{NoMemory}
@@ -9,6 +9,10 @@ use Rattle.neph_guest.proofs.memory.memory_row.Goals as goal
 any_err : (r : Result Row NoMemory) → OnErr r ⊤
 any_err (Ok row) = tt
 any_err (Err lacks) = tt
+
+any_ok : (r : Result Row NoMemory) → IfOk r (λ row. ⊤)
+any_ok (Ok row) = tt
+any_ok (Err lacks) = tt
 
 pub returns-in-W-clause-row : goal.returns-in-W-clause-row
 returns-in-W-clause-row g c = rw c.in-W.is c.write.ensures.row
@@ -36,3 +40,15 @@ returns-in-Map-clause-map g c = rw c.in-Map.is (any_err c.map.result)
 
 pub map-requires-clause-cap : goal.map-requires-clause-cap
 map-requires-clause-cap g c = subst (HasLeafRoom g.P.FramePool.world c.args.pool.now c.args.d.now) c.in-Map.is c.requires.cap
+
+pub returns-in-W-clause-look : goal.returns-in-W-clause-look
+returns-in-W-clause-look g c = rw c.in-W.is c.write.ensures.look
+
+pub returns-in-R-clause-look : goal.returns-in-R-clause-look
+returns-in-R-clause-look g c = rw c.in-R.is tt
+
+pub returns-in-Map-clause-look : goal.returns-in-Map-clause-look
+returns-in-Map-clause-look g c = rw c.in-Map.is (any_ok c.map.result)
+
+pub returns-in-Unmap-clause-look : goal.returns-in-Unmap-clause-look
+returns-in-Unmap-clause-look g c = rw c.in-Unmap.is tt

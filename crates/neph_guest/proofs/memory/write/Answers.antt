@@ -4,8 +4,8 @@ use Rattle.neph_guest.specs.declared.row.Row.{Row}
 use Rattle.neph_guest.specs.OwnHalf.{IsOwnMemory}
 use Rattle.neph_guest.specs.Turns.{RowDone, HandDone, memory_step, turn_of}
 use Rattle.neph_guest.proofs.Staying.{virtual_page, write_done, write_hand}
-use Rattle.neph_guest.proofs.Staying.{write_lacks}
-use Rattle.neph_guest.specs.Turns.{IsWithoutSpare}
+use Rattle.neph_guest.proofs.Staying.{write_lacks, write_look}
+use Rattle.neph_guest.specs.Turns.{IsWithoutSpare, LookDone}
 use Rattle.neph_guest.proofs.memory.write.Goals as goal
 use Rattle.neph_gmap.specs.GuestPages.{GuestPages}
 
@@ -31,3 +31,11 @@ pub returns-clause-lacks : goal.returns-clause-lacks
 returns-clause-lacks g c =
     let spare = c.args.d.now.own.spare in
     subst (λ (r : Row). IsWithoutSpare (turn_of r) spare) (sym c.row_of_write.ensures) (write_lacks c.begin_write-step.result spare)
+
+pub returns-clause-look : goal.returns-clause-look
+returns-clause-look g c =
+    let W = g.P.FramePool.world in
+    subst (λ (r : Row). LookDone W c.args.pool.now c.args.d.now c.begin_write-step.new.self.own (command.W c.args.addr c.args.bytes.now) (turn_of r))
+    (sym c.row_of_write.ensures)
+    (write_look W c.args.pool.now c.args.d.now c.begin_write-step.new.pool c.begin_write-step.new.self c.args.addr c.args.bytes.now
+    c.begin_write-step.result c.begin_write-step.ensures.alone c.begin_write-step.ensures.shared c.begin_write-step.ensures.own)

@@ -58,13 +58,13 @@ add_leaf-requires-clause-needed g c =
 
 pub copy_walks-requires-clause-stands : goal.copy_walks-requires-clause-stands
 copy_walks-requires-clause-stands g c =
-    let s = looked_then g.P.FramePool.world c.args.pool.now c.args.d.now c.args.c.now.memory c.args.c.now.frames.items c.requires.stands c.requires.builds c.requires.apart c.has_leaf-there.new.pool c.has_leaf-there.new.self c.has_leaf-there.ensures.moves c.has_leaf-there.ensures.same c.has_leaf-there.ensures.counts c.add_leaf.new.pool c.add_leaf.new.d c.add_leaf.ensures.moves c.add_leaf.ensures.id c.add_leaf.ensures.hand c.add_leaf.ensures.counts in
+    let s = looked_then g.P.FramePool.world c.args.pool.now c.args.d.now c.args.c.now.memory c.args.c.now.frames.items c.requires.stands c.requires.builds c.requires.apart c.has_leaf-there.new.pool c.has_leaf-there.new.self c.has_leaf-there.ensures.moves c.has_leaf-there.ensures.same c.has_leaf-there.ensures.counts c.add_leaf.new.pool c.add_leaf.new.d c.add_leaf.ensures.moves c.add_leaf.ensures.id c.add_leaf.ensures.hand c.add_leaf.ensures.counts c.add_leaf.ensures.shared in
     unchanged_stands g.P.FramePool.world c.args.pool.now c.args.d.now c.add_leaf.new.pool c.has_leaf-there.new.self c.requires.stands s.parent
 
 pub copy_walks-requires-clause-maps : goal.copy_walks-requires-clause-maps
 copy_walks-requires-clause-maps g c =
     let W = g.P.FramePool.world in
-    let s = looked_then g.P.FramePool.world c.args.pool.now c.args.d.now c.args.c.now.memory c.args.c.now.frames.items c.requires.stands c.requires.builds c.requires.apart c.has_leaf-there.new.pool c.has_leaf-there.new.self c.has_leaf-there.ensures.moves c.has_leaf-there.ensures.same c.has_leaf-there.ensures.counts c.add_leaf.new.pool c.add_leaf.new.d c.add_leaf.ensures.moves c.add_leaf.ensures.id c.add_leaf.ensures.hand c.add_leaf.ensures.counts in
+    let s = looked_then g.P.FramePool.world c.args.pool.now c.args.d.now c.args.c.now.memory c.args.c.now.frames.items c.requires.stands c.requires.builds c.requires.apart c.has_leaf-there.new.pool c.has_leaf-there.new.self c.has_leaf-there.ensures.moves c.has_leaf-there.ensures.same c.has_leaf-there.ensures.counts c.add_leaf.new.pool c.add_leaf.new.d c.add_leaf.ensures.moves c.add_leaf.ensures.id c.add_leaf.ensures.hand c.add_leaf.ensures.counts c.add_leaf.ensures.shared in
     let f : ℕ → Option Mapping = domain_mapping W c.args.pool.now c.args.d.now in
     below_skip f (domain_mapping W c.add_leaf.new.pool c.has_leaf-there.new.self) (domain_mapping W c.args.pool.now c.args.c.now.memory) (domain_mapping W c.add_leaf.new.pool c.add_leaf.new.d) (512 * c.args.i) (512 * c.args.i) (omega arith)
     (unchanged_mapping W c.args.pool.now c.args.d.now c.add_leaf.new.pool c.has_leaf-there.new.self s.parent) (λ u lt. c.add_leaf.ensures.mappings u lt ∙ looked_mapping g.P.FramePool.world c.args.pool.now c.args.d.now c.args.c.now.memory c.args.c.now.frames.items c.requires.stands c.requires.builds c.requires.apart c.has_leaf-there.new.pool c.has_leaf-there.new.self c.has_leaf-there.ensures.moves c.has_leaf-there.ensures.same c.has_leaf-there.ensures.counts u)
@@ -77,7 +77,7 @@ copy_walks-requires-clause-leaf g c =
     subst (λ (k : ℕ). IsSome (domain_leaf g.P.FramePool.world c.add_leaf.new.pool c.add_leaf.new.d k)) at c.add_leaf.ensures.leaf
 
 pub returns-in_err-copy_walks-clause-step : goal.returns-in_err-copy_walks-clause-step
-returns-in_err-copy_walks-clause-step g c = step_trans g.P.FramePool.world _ _ _ _ _ _ _ _ _ (looked_then g.P.FramePool.world c.args.pool.now c.args.d.now c.args.c.now.memory c.args.c.now.frames.items c.requires.stands c.requires.builds c.requires.apart c.has_leaf-there.new.pool c.has_leaf-there.new.self c.has_leaf-there.ensures.moves c.has_leaf-there.ensures.same c.has_leaf-there.ensures.counts c.add_leaf.new.pool c.add_leaf.new.d c.add_leaf.ensures.moves c.add_leaf.ensures.id c.add_leaf.ensures.hand c.add_leaf.ensures.counts) c.copy_walks.ensures.step
+returns-in_err-copy_walks-clause-step g c = step_trans g.P.FramePool.world _ _ _ _ _ _ _ _ _ (looked_then g.P.FramePool.world c.args.pool.now c.args.d.now c.args.c.now.memory c.args.c.now.frames.items c.requires.stands c.requires.builds c.requires.apart c.has_leaf-there.new.pool c.has_leaf-there.new.self c.has_leaf-there.ensures.moves c.has_leaf-there.ensures.same c.has_leaf-there.ensures.counts c.add_leaf.new.pool c.add_leaf.new.d c.add_leaf.ensures.moves c.add_leaf.ensures.id c.add_leaf.ensures.hand c.add_leaf.ensures.counts c.add_leaf.ensures.shared) c.copy_walks.ensures.step
 
 pub returns-in_err-copy_walks-clause-leaf : goal.returns-in_err-copy_walks-clause-leaf
 returns-in_err-copy_walks-clause-leaf g c =
@@ -95,7 +95,7 @@ returns-in_err-copy_walks-clause-leaves g c = λ j lt k.
     c.copy_walks.ensures.leaves j lt ∙ c.add_leaf.ensures.leaves j lt (λ e. k (e ∙ at)) ∙ looked_leaf g.P.FramePool.world c.args.pool.now c.args.d.now c.args.c.now.memory c.args.c.now.frames.items c.requires.stands c.requires.builds c.requires.apart c.has_leaf-there.new.pool c.has_leaf-there.new.self c.has_leaf-there.ensures.moves c.has_leaf-there.ensures.same c.has_leaf-there.ensures.counts j
 
 pub returns-clause-step : goal.returns-clause-step
-returns-clause-step g c = step_trans g.P.FramePool.world _ _ _ _ _ _ _ _ _ (looked_then g.P.FramePool.world c.args.pool.now c.args.d.now c.args.c.now.memory c.args.c.now.frames.items c.requires.stands c.requires.builds c.requires.apart c.has_leaf-there.new.pool c.has_leaf-there.new.self c.has_leaf-there.ensures.moves c.has_leaf-there.ensures.same c.has_leaf-there.ensures.counts c.add_leaf.new.pool c.add_leaf.new.d c.add_leaf.ensures.moves c.add_leaf.ensures.id c.add_leaf.ensures.hand c.add_leaf.ensures.counts) c.copy_walks.ensures.step
+returns-clause-step g c = step_trans g.P.FramePool.world _ _ _ _ _ _ _ _ _ (looked_then g.P.FramePool.world c.args.pool.now c.args.d.now c.args.c.now.memory c.args.c.now.frames.items c.requires.stands c.requires.builds c.requires.apart c.has_leaf-there.new.pool c.has_leaf-there.new.self c.has_leaf-there.ensures.moves c.has_leaf-there.ensures.same c.has_leaf-there.ensures.counts c.add_leaf.new.pool c.add_leaf.new.d c.add_leaf.ensures.moves c.add_leaf.ensures.id c.add_leaf.ensures.hand c.add_leaf.ensures.counts c.add_leaf.ensures.shared) c.copy_walks.ensures.step
 
 pub returns-clause-leaf : goal.returns-clause-leaf
 returns-clause-leaf g c =

@@ -10,7 +10,7 @@ pub loop-i-init : goal.loop-i-init
 loop-i-init g c =
     let W = g.P.FramePool.world in record {
       stands = c.requires.stands;
-      step = step_none W c.args.pool.now c.args.d.now c.args.c.now.memory c.requires.stands.fits;
+      step = step_none W c.args.pool.now c.args.d.now c.args.c.now.memory c.requires.stands.fits c.requires.builds.fits;
       builds = c.requires.builds;
       maps = c.requires.maps;
       bytes = λ x. refl;

@@ -32,22 +32,22 @@ put_mapping-requires-clause-leaf g c =
 
 pub returns-in_err-put_mapping-in-Some-clause-stands : goal.returns-in_err-put_mapping-in-Some-clause-stands
 returns-in_err-put_mapping-in-Some-clause-stands g c =
-    let s = looked_then g.P.FramePool.world c.args.pool.now c.args.d.now c.args.c.now.memory c.args.c.now.frames.items c.requires.stands c.requires.builds c.requires.apart c.meets.new.pool c.meets.new.self c.meets.ensures.moves c.meets.ensures.same c.meets.ensures.counts c.put_mapping.new.pool c.put_mapping.new.c.memory c.put_mapping.ensures.moves c.put_mapping.ensures.id c.put_mapping.ensures.hand c.put_mapping.ensures.counts in
+    let s = looked_then g.P.FramePool.world c.args.pool.now c.args.d.now c.args.c.now.memory c.args.c.now.frames.items c.requires.stands c.requires.builds c.requires.apart c.meets.new.pool c.meets.new.self c.meets.ensures.moves c.meets.ensures.same c.meets.ensures.counts c.put_mapping.new.pool c.put_mapping.new.c.memory c.put_mapping.ensures.moves c.put_mapping.ensures.id c.put_mapping.ensures.hand c.put_mapping.ensures.counts c.put_mapping.ensures.shared in
     unchanged_stands g.P.FramePool.world c.args.pool.now c.args.d.now c.put_mapping.new.pool c.meets.new.self c.requires.stands s.parent
 
 pub returns-in_err-put_mapping-in-Some-clause-step : goal.returns-in_err-put_mapping-in-Some-clause-step
-returns-in_err-put_mapping-in-Some-clause-step g c = looked_then g.P.FramePool.world c.args.pool.now c.args.d.now c.args.c.now.memory c.args.c.now.frames.items c.requires.stands c.requires.builds c.requires.apart c.meets.new.pool c.meets.new.self c.meets.ensures.moves c.meets.ensures.same c.meets.ensures.counts c.put_mapping.new.pool c.put_mapping.new.c.memory c.put_mapping.ensures.moves c.put_mapping.ensures.id c.put_mapping.ensures.hand c.put_mapping.ensures.counts
+returns-in_err-put_mapping-in-Some-clause-step g c = looked_then g.P.FramePool.world c.args.pool.now c.args.d.now c.args.c.now.memory c.args.c.now.frames.items c.requires.stands c.requires.builds c.requires.apart c.meets.new.pool c.meets.new.self c.meets.ensures.moves c.meets.ensures.same c.meets.ensures.counts c.put_mapping.new.pool c.put_mapping.new.c.memory c.put_mapping.ensures.moves c.put_mapping.ensures.id c.put_mapping.ensures.hand c.put_mapping.ensures.counts c.put_mapping.ensures.shared
 
 pub returns-in_err-put_mapping-in-Some-clause-leaves : goal.returns-in_err-put_mapping-in-Some-clause-leaves
 returns-in_err-put_mapping-in-Some-clause-leaves g c = λ i lt. c.put_mapping.ensures.leaves i lt ∙ looked_leaf g.P.FramePool.world c.args.pool.now c.args.d.now c.args.c.now.memory c.args.c.now.frames.items c.requires.stands c.requires.builds c.requires.apart c.meets.new.pool c.meets.new.self c.meets.ensures.moves c.meets.ensures.same c.meets.ensures.counts i
 
 pub returns-in_ok-put_mapping-in-Some-clause-stands : goal.returns-in_ok-put_mapping-in-Some-clause-stands
 returns-in_ok-put_mapping-in-Some-clause-stands g c =
-    let s = looked_then g.P.FramePool.world c.args.pool.now c.args.d.now c.args.c.now.memory c.args.c.now.frames.items c.requires.stands c.requires.builds c.requires.apart c.meets.new.pool c.meets.new.self c.meets.ensures.moves c.meets.ensures.same c.meets.ensures.counts c.put_mapping.new.pool c.put_mapping.new.c.memory c.put_mapping.ensures.moves c.put_mapping.ensures.id c.put_mapping.ensures.hand c.put_mapping.ensures.counts in
+    let s = looked_then g.P.FramePool.world c.args.pool.now c.args.d.now c.args.c.now.memory c.args.c.now.frames.items c.requires.stands c.requires.builds c.requires.apart c.meets.new.pool c.meets.new.self c.meets.ensures.moves c.meets.ensures.same c.meets.ensures.counts c.put_mapping.new.pool c.put_mapping.new.c.memory c.put_mapping.ensures.moves c.put_mapping.ensures.id c.put_mapping.ensures.hand c.put_mapping.ensures.counts c.put_mapping.ensures.shared in
     unchanged_stands g.P.FramePool.world c.args.pool.now c.args.d.now c.put_mapping.new.pool c.meets.new.self c.requires.stands s.parent
 
 pub returns-in_ok-put_mapping-in-Some-clause-step : goal.returns-in_ok-put_mapping-in-Some-clause-step
-returns-in_ok-put_mapping-in-Some-clause-step g c = looked_then g.P.FramePool.world c.args.pool.now c.args.d.now c.args.c.now.memory c.args.c.now.frames.items c.requires.stands c.requires.builds c.requires.apart c.meets.new.pool c.meets.new.self c.meets.ensures.moves c.meets.ensures.same c.meets.ensures.counts c.put_mapping.new.pool c.put_mapping.new.c.memory c.put_mapping.ensures.moves c.put_mapping.ensures.id c.put_mapping.ensures.hand c.put_mapping.ensures.counts
+returns-in_ok-put_mapping-in-Some-clause-step g c = looked_then g.P.FramePool.world c.args.pool.now c.args.d.now c.args.c.now.memory c.args.c.now.frames.items c.requires.stands c.requires.builds c.requires.apart c.meets.new.pool c.meets.new.self c.meets.ensures.moves c.meets.ensures.same c.meets.ensures.counts c.put_mapping.new.pool c.put_mapping.new.c.memory c.put_mapping.ensures.moves c.put_mapping.ensures.id c.put_mapping.ensures.hand c.put_mapping.ensures.counts c.put_mapping.ensures.shared
 
 pub returns-in_ok-put_mapping-in-Some-clause-leaves : goal.returns-in_ok-put_mapping-in-Some-clause-leaves
 returns-in_ok-put_mapping-in-Some-clause-leaves g c = λ i lt. c.put_mapping.ensures.leaves i lt ∙ looked_leaf g.P.FramePool.world c.args.pool.now c.args.d.now c.args.c.now.memory c.args.c.now.frames.items c.requires.stands c.requires.builds c.requires.apart c.meets.new.pool c.meets.new.self c.meets.ensures.moves c.meets.ensures.same c.meets.ensures.counts i
@@ -55,7 +55,7 @@ returns-in_ok-put_mapping-in-Some-clause-leaves g c = λ i lt. c.put_mapping.ens
 pub returns-in_ok-put_mapping-in-Some-clause-maps : goal.returns-in_ok-put_mapping-in-Some-clause-maps
 returns-in_ok-put_mapping-in-Some-clause-maps g c =
     let W = g.P.FramePool.world in
-    let s = looked_then g.P.FramePool.world c.args.pool.now c.args.d.now c.args.c.now.memory c.args.c.now.frames.items c.requires.stands c.requires.builds c.requires.apart c.meets.new.pool c.meets.new.self c.meets.ensures.moves c.meets.ensures.same c.meets.ensures.counts c.put_mapping.new.pool c.put_mapping.new.c.memory c.put_mapping.ensures.moves c.put_mapping.ensures.id c.put_mapping.ensures.hand c.put_mapping.ensures.counts in
+    let s = looked_then g.P.FramePool.world c.args.pool.now c.args.d.now c.args.c.now.memory c.args.c.now.frames.items c.requires.stands c.requires.builds c.requires.apart c.meets.new.pool c.meets.new.self c.meets.ensures.moves c.meets.ensures.same c.meets.ensures.counts c.put_mapping.new.pool c.put_mapping.new.c.memory c.put_mapping.ensures.moves c.put_mapping.ensures.id c.put_mapping.ensures.hand c.put_mapping.ensures.counts c.put_mapping.ensures.shared in
     let f : ℕ → Option Mapping = domain_mapping W c.args.pool.now c.args.d.now in
     let k : ℕ → Option Mapping = domain_mapping W c.meets.new.pool c.args.c.now.memory in
     below_more f (domain_mapping W c.put_mapping.new.pool c.meets.new.self) (domain_mapping W c.args.pool.now c.args.c.now.memory) (domain_mapping W c.put_mapping.new.pool c.put_mapping.new.c.memory) c.args.v

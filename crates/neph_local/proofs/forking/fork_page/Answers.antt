@@ -65,3 +65,9 @@ returns-in-Some-clause-shared g c = λ h.
 
 pub returns-in-None-clause-done : goal.returns-in-None-clause-done
 returns-in-None-clause-done g c = λ h. c.in-None.ensures.none refl
+
+pub returns-in-None-clause-seat : goal.returns-in-None-clause-seat
+returns-in-None-clause-seat g c = record { fits = c.requires.stands.fits; names = refl }
+
+pub returns-in-None-clause-others : goal.returns-in-None-clause-others
+returns-in-None-clause-others g c = record { frames = refl; cap = refl; fits = λ t f a. f; entries = λ t f a. refl }

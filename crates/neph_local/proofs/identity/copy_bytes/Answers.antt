@@ -10,6 +10,7 @@ use Rattle.neph_memory.specs.Domains.{IsUnchanged}
 use Rattle.neph_memory.proofs.Leading.{named}
 use Rattle.neph_memory.proofs.Rooming.{room_after}
 use Rattle.neph_memory.proofs.Writing.{memory_held, leaves_held, shown_held, write_holds, write_words}
+use Rattle.neph_memory.proofs.Keeping.{shared_wiped}
 use Rattle.neph_local.proofs.Crowd.{ids_apart}
 use Rattle.neph_local.proofs.Stepping.{unchanged_stands}
 use Rattle.neph_local.proofs.Wording.{once_held, bytes_else}
@@ -75,9 +76,11 @@ returns-clause-child g c =
 pub returns-clause-step : goal.returns-clause-step
 returns-clause-step g c = record {
   parent = unchanged g c;
+  fits = c.copy_words.ensures.to.fits;
   names = c.copy_words.ensures.to.names;
   id = refl;
   hand = refl;
+  shared = shared_wiped (child_before g c) (child_after g c) c.unwrap-t.result _ ((c.requires.child.memory.made.sole c.args.p c.unwrap-t.result (sym c.frame_for-2.ensures ∙ c.unwrap-t.ensures)).0 c.requires.marked) (is g c);
   others = c.copy_words.ensures.others;
   counts = c.copy_words.ensures.counts;
 }

@@ -7,6 +7,7 @@ use Rattle.neph_memory.specs.Pages.{frame_at}
 use Rattle.neph_memory.specs.Memory.{is_marked}
 use Rattle.neph_memory.specs.Domains.{domain_page}
 use Rattle.neph_pool.proofs.Calls.{moves_trans, same_counts_trans}
+use Rattle.neph_memory.proofs.Keeping.{shared_trans}
 use Rattle.neph_local.proofs.Starting.{number_is}
 use Rattle.neph_local.proofs.Wording.{four, identity_written, others_kept}
 use Rattle.neph_local.proofs.identity.write_identity.Goals as goal
@@ -87,6 +88,9 @@ returns-clause-leaves g c = λ i lt. c.write_marked-3.ensures.leaves i lt ∙ c.
 
 pub returns-clause-moves : goal.returns-clause-moves
 returns-clause-moves g c = moves_trans _ _ _ _ _ _ _ (moves_trans _ _ _ _ _ _ _ c.write_marked.ensures.moves c.write_marked-2.ensures.moves) c.write_marked-3.ensures.moves
+
+pub returns-clause-shared : goal.returns-clause-shared
+returns-clause-shared g c = shared_trans _ _ _ (shared_trans _ _ _ c.write_marked.ensures.shared c.write_marked-2.ensures.shared) c.write_marked-3.ensures.shared
 
 pub returns-clause-counts : goal.returns-clause-counts
 returns-clause-counts g c = same_counts_trans _ _ _ _ (same_counts_trans _ _ _ _ c.write_marked.ensures.counts c.write_marked-2.ensures.counts) c.write_marked-3.ensures.counts

@@ -1,11 +1,10 @@
-use Rattle.std.proofs.Common.{Bool, List, false, length, sym, ap, ◌∙◌}
+use Rattle.std.proofs.Common.{sym, ap, ◌∙◌}
 use Rattle.neph_pool.specs.Names.{only_name}
 use Rattle.neph_ptab.specs.declared.walk.Walk.{Walk}
 use Rattle.neph_memory.specs.Memory.{mapping, pfn_by, wanted_by}
 use Rattle.neph_memory.proofs.Places.{some_small}
 use Rattle.neph_local.proofs.Carrying.{forking_done}
 use Rattle.neph_local.proofs.Crowd.{ids_apart}
-use Rattle.neph_local.proofs.Rooted.{long}
 use Rattle.neph_local.proofs.Sprouted.{same_frames, same_bytes, at_least}
 use Rattle.neph_local.proofs.sprout.sprout.Goals as goal
 
@@ -15,9 +14,6 @@ sprout_root-tables-requires-clause-forks g c = record {
   names = c.requires.fork.forks.names;
   forking = forking_done _ _ _ _ _ c.requires.fork.forks.forking c.requires.done;
 }
-
-pub sprout_root-tables-requires-clause-marks : goal.sprout_root-tables-requires-clause-marks
-sprout_root-tables-requires-clause-marks g c = ap (λ (bs : List Bool). length bs) c.in_ok-own.ensures.marks ∙ long c.len-pages.result false ∙ c.len-pages.ensures.count
 
 pub adopt_all-requires-clause-some : goal.adopt_all-requires-clause-some
 adopt_all-requires-clause-some g c = at_least _ _ c.len-pages.ensures.count (some_small _ 0 c.requires.stands.identity)

@@ -3,6 +3,7 @@ use Rattle.neph_ptab.specs.Tables.{leaf_at, walk_at}
 use Rattle.neph_memory.proofs.Leading.{named}
 use Rattle.neph_memory.proofs.Places.{frame_small, some_small}
 use Rattle.neph_memory.proofs.Building.{popped, took}
+use Rattle.neph_memory.proofs.Keeping.{shared_wiped}
 use Rattle.neph_local.proofs.Sprouting.{sprouts, may_adopt, sprout_once, sprout_bytes}
 use Rattle.neph_local.specs.Forks.{Adopts}
 use Rattle.neph_local.proofs.sprout.sprout_root.Goals as goal
@@ -66,3 +67,10 @@ returns-clause-leaves g c = λ i lt. ap (λ (r : ℕ). leaf_at (g.P.FramePool.wo
 
 pub returns-clause-walks : goal.returns-clause-walks
 returns-clause-walks g c = λ u lt. ap (λ (r : ℕ). walk_at (g.P.FramePool.world.entries c.new.new.pool c.new.new.seat) r u) c.new.ensures.root ∙ c.new.ensures.walks u lt
+
+pub returns-clause-shared : goal.returns-clause-shared
+returns-clause-shared g c =
+    let ef = g.P.FramePool.world.entries c.args.pool.now c.args.k.now.seat in
+    let k = c.requires.forks.forking in
+    shared_wiped ef (g.P.FramePool.world.entries c.new.new.pool c.new.new.seat) c.unwrap-root.result _
+    (k.aside c.unwrap-root.result (took ef ef _ _ c.unwrap-root.result (popped _ _ _ c.unwrap-root.result c.pop.ensures.items c.unwrap-root.ensures) k.once k.aside (λ x. refl))) c.new.ensures.entries

@@ -5,6 +5,7 @@ use Rattle.neph_memory.proofs.Leading.{named}
 use Rattle.neph_memory.proofs.Building.{popped, took, sole_took, once_new, sole_new, IsLeafed, leafing, leafed_holds}
 use Rattle.neph_memory.specs.Memory.{vpn_mapping, IsMade}
 use Rattle.neph_memory.specs.Building.{IsAmong}
+use Rattle.neph_memory.proofs.Keeping.{shared_twice}
 use Rattle.neph_memory.proofs.build.add_leaf.Given as given
 use Rattle.neph_memory.proofs.build.add_leaf.Goals as goal
 
@@ -75,3 +76,10 @@ returns-clause-leaves g c = λ j lt n.
 
 pub returns-clause-walks : goal.returns-clause-walks
 returns-clause-walks g c = λ u l. ap (λ (r : ℕ). walk_at (g.P.FramePool.world.entries c.add_leaf.new.pool c.add_leaf.new.seat) r u) c.add_leaf.ensures.root ∙ c.add_leaf.ensures.walks u l
+
+pub returns-clause-shared : goal.returns-clause-shared
+returns-clause-shared g c =
+    let W = g.P.FramePool.world in
+    let es = W.entries c.args.pool.now c.args.d.now.seat in
+    let s = sole_took es es _ _ c.unwrap-f.result (popped _ _ _ c.unwrap-f.result c.pop.ensures.items c.unwrap-f.ensures) c.requires.builds.once c.requires.builds.sole (λ x. refl) in
+    shared_twice es (W.entries c.add_leaf.new.pool c.add_leaf.new.seat) c.args.d.now.tables.root c.unwrap-f.result c.requires.builds.made.tables.top s c.add_leaf.ensures.holds c.add_leaf.ensures.words

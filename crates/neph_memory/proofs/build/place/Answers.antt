@@ -9,6 +9,7 @@ use Rattle.neph_memory.proofs.Leading.{named}
 use Rattle.neph_memory.proofs.Places.{place_else}
 use Rattle.neph_memory.proofs.Placing.{away_small}
 use Rattle.neph_memory.proofs.Building.{popped, took, once_new, sole_new, IsPlaced, placing, wiped_holds, wiped_else, wiped_bytes, blank_bytes}
+use Rattle.neph_memory.proofs.Keeping.{shared_wiped}
 use Rattle.neph_memory.proofs.build.place.Given as given
 use Rattle.neph_memory.proofs.build.place.Goals as goal
 
@@ -86,3 +87,11 @@ returns-clause-mark g c = (fact g c).mark
 pub returns-clause-marks : goal.returns-clause-marks
 returns-clause-marks g c = λ q n.
     ap (λ (k : ℕ). slice_index_or (set c.args.d.now.own.marks.items k true) q false) c.get.ensures.value ∙ get_or-set_other c.args.d.now.own.marks.items c.args.p q true false n
+
+pub returns-clause-shared : goal.returns-clause-shared
+returns-clause-shared g c =
+    let W = g.P.FramePool.world in
+    let es = W.entries c.args.pool.now c.args.d.now.seat in
+    let e = popped _ _ _ c.unwrap-f.result c.pop.ensures.items c.unwrap-f.ensures in
+    let t = took es es _ _ c.unwrap-f.result e c.requires.builds.once c.requires.builds.sole (λ x. refl) in
+    shared_wiped es (W.entries c.wipe.new.pool c.wipe.new.seat) c.unwrap-f.result zero_words (c.requires.builds.sole c.unwrap-f.result t) c.wipe.ensures.entries

@@ -6,6 +6,7 @@ use Rattle.neph_memory.proofs.Leading.{named}
 use Rattle.neph_memory.proofs.Putting.{put_made, put_shown, put_bytes, put_else}
 use Rattle.neph_memory.specs.Memory.{vpn_mapping, is_marked, IsMade}
 use Rattle.neph_memory.specs.Building.{Rest, lead_to}
+use Rattle.neph_memory.proofs.Keeping.{shared_same, shared_retabled}
 use Rattle.neph_memory.proofs.build.put.Given as given
 use Rattle.neph_memory.proofs.build.put.Goals as goal
 
@@ -71,3 +72,9 @@ pub returns-clause-walks : goal.returns-clause-walks
 returns-clause-walks g c = λ u l n.
     ap (λ (r : ℕ). walk_at (g.P.FramePool.world.entries c.set.new.pool c.set.new.seat) r u) c.set.ensures.root ∙ walks g c u l
     ∙ ap (λ (b : Bool). if b then lead_to (slice_get c.args.d.now.own.map.pages c.args.p) (is_marked c.args.d.now.own c.args.p) c.args.p c.args.rw else walk_at (g.P.FramePool.world.entries c.args.pool.now c.args.d.now.seat) c.args.d.now.tables.root u) (ne_eqb u c.args.v n)
+
+pub returns-clause-shared : goal.returns-clause-shared
+returns-clause-shared g c = shared_retabled _ _ c.args.d.now.tables.root c.requires.made.tables c.set.ensures.tables
+
+pub returns-in_err-add_vpn-clause-shared : goal.returns-in_err-add_vpn-clause-shared
+returns-in_err-add_vpn-clause-shared g c = shared_same _ _ refl

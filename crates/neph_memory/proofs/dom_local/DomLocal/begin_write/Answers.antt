@@ -1,11 +1,14 @@
-use Rattle.std.proofs.Common.{◌≡◌, ◌/◌, ◌%◌, ◌||◌, ℕ, List, Bool, true, false, Some, refl, sym, ap, ◌∙◌}
+use Rattle.std.proofs.Common.{◌≡◌, ◌/◌, ◌%◌, ◌||◌, ℕ, List, Bool, true, false, Some, IfSome, refl, sym, ap, subst, ◌∙◌}
 use Rattle.std.specs.declared.option.Option.{Option}
 use Rattle.neph_model.specs.declared.memory.Mapping.{Mapping}
 use Rattle.neph_pool.proofs.Calls.{moves_trans}
 use Rattle.neph_memory.specs.declared.own.Own.{Own}
 use Rattle.neph_memory.specs.declared.write.Write.{Write}
 use Rattle.neph_memory.specs.declared.write.WriteStep.TheVariants as step
-use Rattle.neph_memory.proofs.Leading.{local_page, shown_local, step_ready, step_readonly, step_away}
+use Rattle.neph_memory.specs.Memory.{is_marked}
+use Rattle.neph_memory.specs.Domains.{IsSharedPage}
+use Rattle.neph_memory.proofs.Telling.{shared_before}
+use Rattle.neph_memory.proofs.Leading.{local_page, local_sole, shown_local, step_ready, step_readonly, step_away}
 use Rattle.neph_memory.proofs.Standing.{moved_write, moved_page, moved_shown}
 use Rattle.neph_memory.specs.Pages.{frame_at}
 use Rattle.neph_memory.specs.Memory.{page_bytes}
@@ -253,3 +256,54 @@ returns-then-write_shared-clause-leaves g c = λ i l. c.write_shared.ensures.lea
 
 pub returns-else-write_shared-clause-leaves : goal.returns-else-write_shared-clause-leaves
 returns-else-write_shared-clause-leaves g c = λ i l. c.write_shared.ensures.leaves i l ∙ c.peek.ensures.leaves i l
+
+pub returns-then-rw-clause-alone : goal.returns-then-rw-clause-alone
+returns-then-rw-clause-alone g c = λ t.
+    let W = g.P.FramePool.world in
+    let es = W.entries c.args.pool.now c.args.self.now.seat in
+    let o = c.args.self.now.own in
+    let root = c.args.self.now.tables.root in
+    let m = c.requires.stands.memory in
+    let v = c.args.v / 4096 in
+    let lt = c.peek.ensures.range in
+    let w = sym c.in-Local.ensures.walk in
+    let page = local_page es root o m v c.in-Local.frame c.in-Local.rw c.in-Local.shared lt w in
+    let there = ap (λ (k : Own). frame_at k.map.pages page.0) c.peek.ensures.own ∙ page.1 in
+    let maps = shown_local es root o m v c.in-Local.frame c.in-Local.rw c.in-Local.shared lt w page.0 page.1 in
+    let sole = local_sole es root o m v c.in-Local.frame c.in-Local.rw c.in-Local.shared lt w c.if-rw.true in
+    subst (λ (x : Option Mapping). IfSome x (λ to. is_marked c.write_frame.new.self.own to.pfn ≡ true)) (sym maps)
+    (ap (λ (k : Own). is_marked k page.0) (c.write_frame.ensures.own ∙ c.peek.ensures.own) ∙ (m.made.sole page.0 c.in-Local.frame page.1).1 sole)
+
+pub returns-then-write_shared-clause-alone : goal.returns-then-write_shared-clause-alone
+returns-then-write_shared-clause-alone g c = λ t.
+    let W = g.P.FramePool.world in
+    let es = W.entries c.args.pool.now c.args.self.now.seat in
+    let o = c.args.self.now.own in
+    let root = c.args.self.now.tables.root in
+    let m = c.requires.stands.memory in
+    let v = c.args.v / 4096 in
+    let lt = c.peek.ensures.range in
+    let w = sym c.in-Local.ensures.walk in
+    let page = local_page es root o m v c.in-Local.frame c.in-Local.rw c.in-Local.shared lt w in
+    let there = ap (λ (k : Own). frame_at k.map.pages page.0) c.peek.ensures.own ∙ page.1 in
+    let maps = shown_local es root o m v c.in-Local.frame c.in-Local.rw c.in-Local.shared lt w page.0 page.1 in
+    subst (λ (x : Option Mapping). IfSome x (λ to. is_marked c.write_shared.new.self.own to.pfn ≡ true)) (sym maps) (c.if-write_shared.ensures.alone refl page.0 there)
+
+pub returns-else-write_shared-clause-shared : goal.returns-else-write_shared-clause-shared
+returns-else-write_shared-clause-shared g c = λ t.
+    let W = g.P.FramePool.world in
+    let es = W.entries c.args.pool.now c.args.self.now.seat in
+    let o = c.args.self.now.own in
+    let root = c.args.self.now.tables.root in
+    let m = c.requires.stands.memory in
+    let v = c.args.v / 4096 in
+    let lt = c.peek.ensures.range in
+    let w = sym c.in-Local.ensures.walk in
+    let page = local_page es root o m v c.in-Local.frame c.in-Local.rw c.in-Local.shared lt w in
+    let there = ap (λ (k : Own). frame_at k.map.pages page.0) c.peek.ensures.own ∙ page.1 in
+    let maps = shown_local es root o m v c.in-Local.frame c.in-Local.rw c.in-Local.shared lt w page.0 page.1 in
+    subst (λ (x : Option Mapping). IfSome x (λ to. IsSharedPage W c.args.pool.now c.args.self.now to.pfn)) (sym maps)
+    (shared_before W c.args.pool.now c.args.self.now c.peek.new.pool c.peek.new.self page.0 c.peek.ensures.counts.told c.peek.ensures.own (c.if-write_shared.ensures.shared refl page.0 there))
+
+pub returns-else-write_shared-clause-own : goal.returns-else-write_shared-clause-own
+returns-else-write_shared-clause-own g c = λ t. c.if-write_shared.ensures.own refl ∙ c.peek.ensures.own

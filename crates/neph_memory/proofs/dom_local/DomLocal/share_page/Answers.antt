@@ -5,6 +5,7 @@ use Rattle.neph_ptab.specs.Tables.{leaf_at, walk_at}
 use Rattle.neph_memory.specs.declared.own.Own.{Own}
 use Rattle.neph_memory.proofs.Rooming.{room_after}
 use Rattle.neph_memory.proofs.Leading.{named}
+use Rattle.neph_memory.proofs.Lending.{both_spare}
 use Rattle.neph_memory.proofs.Places.{frame_small}
 use Rattle.neph_memory.proofs.Sharing.{lent_tables, lent_local, lent_shown, lent_bytes, lent_memory}
 use Rattle.neph_gmap.specs.GuestPages.{has_number, vpns_at}
@@ -76,3 +77,13 @@ pub returns-clause-leaves : goal.returns-clause-leaves
 returns-clause-leaves g c = λ i l.
     let fs = g.P.FramePool.world.entries c.move_page.new.pool c.move_page.new.seat in
     ap (λ (r : ℕ). leaf_at fs r i) c.move_page.ensures.root ∙ c.move_page.ensures.tables.leaves i l ∙ leaf_words _ _ c.args.self.now.tables.root i (c.lend.ensures.words c.args.self.now.tables.root)
+
+pub returns-clause-seat : goal.returns-clause-seat
+returns-clause-seat g c = record {
+  fits = c.move_page.ensures.moves.fits;
+  names = c.move_page.ensures.moves.names ∙ c.lend.ensures.seat.names;
+}
+
+pub returns-clause-others : goal.returns-clause-others
+returns-clause-others g c =
+    both_spare g.P.FramePool.world _ _ _ _ _ _ c.lend.ensures.others c.lend.ensures.seat.names c.move_page.ensures.moves.others

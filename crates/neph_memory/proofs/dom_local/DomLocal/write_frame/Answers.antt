@@ -5,6 +5,7 @@ use Rattle.neph_memory.proofs.Writing.{memory_held, shown_held, write_holds, wri
 use Rattle.neph_model.specs.Memory.{page_with_bytes}
 use Rattle.neph_pool.specs.Bytes.{bytes_at}
 use Rattle.neph_memory.proofs.Standing.{leaf_words}
+use Rattle.neph_memory.proofs.Keeping.{shared_wiped}
 use Rattle.neph_memory.proofs.dom_local.DomLocal.write_frame.Goals as goal
 
 pub write_bytes-requires-clause-seat : goal.write_bytes-requires-clause-seat
@@ -44,3 +45,6 @@ returns-clause-leaves g c = λ i l.
     let root : ℕ = c.args.self.now.tables.root in
     let at = c.requires.page in
     leaf_words _ _ root i (write_words _ _ root c.args.self.now.own m at.0 c.args.frame at.1 c.write_bytes.ensures.entries root (inl refl))
+
+pub returns-clause-shared : goal.returns-clause-shared
+returns-clause-shared g c = shared_wiped _ _ c.args.frame _ c.requires.sole c.write_bytes.ensures.entries

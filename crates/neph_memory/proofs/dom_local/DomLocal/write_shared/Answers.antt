@@ -7,7 +7,10 @@ use Rattle.neph_memory.proofs.Rooming.{room_after}
 use Rattle.neph_memory.proofs.Leading.{named, on}
 use Rattle.neph_memory.proofs.Places.{frame_small, some_same}
 use Rattle.neph_memory.proofs.Standing.{found_some, found_at, look_true, leaf_words}
-use Rattle.neph_memory.proofs.Looking.{look_here, look_words, look_shown, look_bytes, look_memory}
+use Rattle.neph_memory.proofs.Looking.{look_here, look_mark, look_words, look_shown, look_bytes, look_memory}
+use Rattle.neph_memory.proofs.Telling.{shared_page, unmarked}
+use Rattle.neph_memory.specs.Memory.{is_marked}
+use Rattle.neph_memory.specs.declared.own.Own.{Own}
 use Rattle.neph_memory.specs.Steps.{with_write}
 use Rattle.neph_memory.proofs.dom_local.DomLocal.write_shared.Goals as goal
 
@@ -72,3 +75,20 @@ returns-then-look-clause-leaves g c = λ i l.
     let at = c.requires.page in
     c.write_frame.ensures.leaves i l
     ∙ leaf_words _ _ c.args.self.now.tables.root i (look_words _ _ c.args.self.now.tables.root c.args.self.now.own c.requires.stands.memory at.0 c.args.frame at.1 (look_true _ _ c.args.frame c.look.result c.look.ensures.entries c.if-look.true) c.args.self.now.tables.root)
+
+pub returns-then-look-clause-alone : goal.returns-then-look-clause-alone
+returns-then-look-clause-alone g c = λ t p at.
+    let es = g.P.FramePool.world.entries c.args.pool.now c.args.self.now.seat in
+    let here = c.page_in.ensures ∙ on es c.args.self.now.tables.root c.args.self.now.own c.requires.stands.memory p c.args.frame at in
+    let same : c.unwrap-pfn.result ≡ p = some_same _ _ (sym c.unwrap-pfn.ensures ∙ here) in
+    let marks = with_item c.args.self.now.own.marks c.get.result true in
+    ap (λ (o : Own). is_marked o p) c.write_frame.ensures.own
+    ∙ look_mark _ _ c.args.self.now.tables.root c.args.self.now.own c.requires.stands.memory p c.args.frame at (look_true _ _ c.args.frame c.look.result c.look.ensures.entries c.if-look.true)
+    marks (ap (λ (k : ℕ). set c.args.self.now.own.marks.items k true) (c.get.ensures.value ∙ same))
+
+pub returns-else-look-clause-shared : goal.returns-else-look-clause-shared
+returns-else-look-clause-shared g c = λ t p at.
+    let W = g.P.FramePool.world in
+    let sole = (c.requires.stands.memory.made.sole p c.args.frame at).0 in
+    shared_page W c.args.pool.now c.args.self.now p c.args.frame at c.look.result (W.met c.look.new.s) c.if-look.false c.look.ensures.met c.look.ensures.some c.look.ensures.told
+    (unmarked _ c.look.result (λ m. c.look.ensures.sole (sole m)) c.if-look.false)
