@@ -52,7 +52,11 @@ impl ExposedPages for FlatPages {
 
     ghost may_bear = { λ a child parent. ⊤ };
 
-    ghost keeps = { λ a b. ⊤ };
+    ghost stays = { λ a b. ⊤ };
+
+    ghost born = { λ a b child. ⊤ };
+
+    ghost left = { λ a b id. ⊤ };
 
     fn has(&self, id: DomId, pfn: Pfn) -> bool {
         self.maps[id.get() as usize].get(pfn.get()).is_some()
@@ -81,7 +85,7 @@ impl ExposedPages for FlatPages {
         self.maps[id.get() as usize] = PageMap::new(self.alloc);
     }
 
-    ghost keeps_itself = { λ a fits. tt };
+    ghost stays_itself = { λ a fits. tt };
 }
 
 ghost use Rattle.std.specs.Prelude.{◌≡◌, IfOk, OnOk, OnErr, ℕ, List};

@@ -1,5 +1,5 @@
 -- The hypervisor's frames stand in a pool.
-use Rattle.std.specs.Prelude.{◌≡◌, ◌≤◌, ◌++◌, ◌⊎◌, ℕ, List, [], true, length}
+use Rattle.std.specs.Prelude.{◌≡◌, ◌≤◌, ◌++◌, ℕ, List, [], true, length, slice_set}
 use Rattle.neph_pool.specs.Names.{only_name}
 use Rattle.neph_pool.specs.World.{World, Moves}
 use Rattle.neph_heap.specs.declared.exposed_frame.ExposedFrame.{ExposedFrame}
@@ -22,10 +22,20 @@ pub record MayBear (l : Lists) (child parent : ℕ) : Type 0 where
   pub none : exposed_of child l ≡ []
   pub enough : length (aside_of child l) ≡ length (exposed_of parent l)
 
--- what is aside for each child still is, or has become its exposed pages
-abbrev pub KeepsAside : Lists → Lists → Type 0
-KeepsAside l m = (child : ℕ) → (aside_of child m ≡ aside_of child l)
-    ⊎ ((aside_of child m ≡ []) × (frames_of (exposed_of child m) ≡ aside_of child l))
+-- the lists after the birth of a child: its exposed pages lie in the frames that were aside for it
+pub record IsBorn (l m : Lists) (child : ℕ) : Type 0 where
+  pub frames : frames_of (exposed_of child m) ≡ aside_of child l
+  pub rest : m ≡ record l {
+    exposed = slice_set l.exposed child (exposed_of child m);
+    aside = slice_set l.aside child [];
+  }
+
+-- the lists after the end of a domain: the frames of its exposed pages are free
+abbrev pub lists_left : Lists → ℕ → Lists
+lists_left l id = record l {
+  free = l.free ++ frames_of (exposed_of id l);
+  exposed = slice_set l.exposed id [];
+}
 
 module _ {Pool Seat : Type 0} (W : World Pool Seat) where
   -- The seat is the hypervisor's. It keeps the free frames of these lists, with no reference, and
@@ -45,9 +55,8 @@ module _ {Pool Seat : Type 0} (W : World Pool Seat) where
     pub names : W.names s ≡ only_name id
     pub has : Has (W.entries p s) [] frames []
 
-  -- a call on the exposed pages: the seat keeps its names, every other seat is as it was, nothing is
-  -- shared, and what is aside is kept
-  pub record KeepsOthers (p : Pool) (s : Seat) (l : Lists) (q : Pool) (t : Seat) (m : Lists) : Type 0 where
+  -- a call on the exposed pages: the seat keeps its names, every other seat is as it was, and
+  -- nothing is shared
+  pub record IsPageCall (p : Pool) (s : Seat) (q : Pool) (t : Seat) : Type 0 where
     pub moves : Moves W p s q t
     pub shares : W.shares q ≡ W.shares p
-    pub aside : KeepsAside l m

@@ -180,8 +180,8 @@ pub struct HeapPages<'a, P: FramePool> {
 impl<'a, P: FramePool> ExposedPages for HeapPages<'a, P> {
     ghost use Rattle.std.specs.Prelude.{◌≡◌, [], refl};
     ghost use Rattle.neph_pool.specs.World.{World};
-    ghost use Rattle.neph_heap.specs.Heap.{IsHeap, MayBear, KeepsOthers};
-    ghost use Rattle.neph_heap.specs.Kept.{keeps_itself};
+    ghost use Rattle.neph_heap.specs.Heap.{IsHeap, MayBear, IsBorn, lists_left, IsPageCall};
+    ghost use Rattle.neph_heap.specs.Kept.{no_call};
     ghost use Rattle.neph_heap.specs.Pages.{pages_in};
 
     ghost fits = { λ a. IsHeap P.world a.pool.now a.heap.now.seat a.heap.now.stock [] };
@@ -191,10 +191,20 @@ impl<'a, P: FramePool> ExposedPages for HeapPages<'a, P> {
 
     ghost may_bear = { λ a child parent. MayBear a.heap.now.stock child parent };
 
-    ghost keeps = { λ a b. (b.heap.ghost_name ≡ a.heap.ghost_name)
+    ghost stays = { λ a b. (b.heap.ghost_name ≡ a.heap.ghost_name)
         × (b.pool.ghost_name ≡ a.pool.ghost_name)
-        × KeepsOthers P.world a.pool.now a.heap.now.seat a.heap.now.stock
-        b.pool.now b.heap.now.seat b.heap.now.stock };
+        × IsPageCall P.world a.pool.now a.heap.now.seat b.pool.now b.heap.now.seat
+        × (b.heap.now.stock ≡ a.heap.now.stock) };
+
+    ghost born = { λ a b child. (b.heap.ghost_name ≡ a.heap.ghost_name)
+        × (b.pool.ghost_name ≡ a.pool.ghost_name)
+        × IsPageCall P.world a.pool.now a.heap.now.seat b.pool.now b.heap.now.seat
+        × IsBorn a.heap.now.stock b.heap.now.stock child };
+
+    ghost left = { λ a b id. (b.heap.ghost_name ≡ a.heap.ghost_name)
+        × (b.pool.ghost_name ≡ a.pool.ghost_name)
+        × IsPageCall P.world a.pool.now a.heap.now.seat b.pool.now b.heap.now.seat
+        × (b.heap.now.stock ≡ lists_left a.heap.now.stock id) };
 
     fn has(&self, id: DomId, pfn: Pfn) -> bool {
         self.heap.has(id, pfn)
@@ -220,10 +230,10 @@ impl<'a, P: FramePool> ExposedPages for HeapPages<'a, P> {
         self.heap.end(self.pool, id);
     }
 
-    ghost keeps_itself = { λ a fits. (
+    ghost stays_itself = { λ a fits. (
       refl,
       refl,
-      keeps_itself P.world a.pool.now
-          a.heap.now.seat a.heap.now.stock fits,
+      no_call P.world a.pool.now a.heap.now.seat a.heap.now.stock fits,
+      refl,
     ) };
 }

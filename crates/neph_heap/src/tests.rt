@@ -1,35 +1,13 @@
 // A life of some frames over the plain pool, each call through its bound.
-ghost use Rattle.std.specs.Prelude.{◌≡◌, ◌≢◌, ◌<◌, ◌≤◌, ◌+◌, ℕ, [], true, IfOk, OnOk, Some, length, slice_get};
-ghost use Rattle.neph_model.specs.Machine.{guest_at, is_live};
-ghost use Rattle.neph_pool.specs.Entries.{IsZeroAt};
-ghost use Rattle.neph_pool.specs.World.{World, Moves};
-ghost use Rattle.neph_heap.specs.Heap.{IsHeap, MayBear};
+ghost use Rattle.std.specs.Prelude.{◌≡◌, ◌≤◌, [], length};
+ghost use Rattle.neph_pool.specs.World.{World};
+ghost use Rattle.neph_heap.specs.Heap.{IsHeap};
 ghost use Rattle.neph_heap.specs.Lists.{exposed_of};
 
 use crate::heap::Heap;
-use crate::pages::HeapPages;
-use neph_base::{DomId, NoMemory, Pfn, Reply};
+use neph_base::{DomId, NoMemory, Pfn};
 use neph_pool::{FramePool, PlainPool};
-use neph_rows::{Registry, commit};
 use std::test::Fail;
-
-// The row of a commit over the heap's pages: the caller knows what became of its heap and pool.
-fn commit_over<P: FramePool>(
-    r: &mut Registry,
-    heap: &mut Heap<P>,
-    pool: &mut P,
-    dom: DomId,
-) -> Result<Reply, NoMemory>
-    requires heap { IsHeap P.world pool.old heap.old.seat heap.old.stock [] }
-    requires live { is_live dom r.old.lives ≡ true }
-    requires may { (child : ℕ) → slice_get (guest_at dom r.old.tables).begun 0 ≡ Some child
-        → MayBear heap.old.stock child dom }
-    ensures heap { IsHeap P.world pool.new heap.new.seat heap.new.stock [] }
-    ensures moves { Moves P.world pool.old heap.old.seat pool.new heap.new.seat }
-{
-    let mut pages = HeapPages { heap, pool };
-    commit(r, &mut pages, dom)
-}
 
 // The device pages of a domain: a byte that was written to one, how many pages are exposed, and how
 // many frames are free after they are given up.

@@ -2,3 +2,4 @@ pub mod SlotGuests
 pub mod Sound
 pub mod SlotFacts
 pub mod RecordRows
+pub mod CloneRows

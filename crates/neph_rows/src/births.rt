@@ -1,5 +1,5 @@
 // The commit of a clone, the end of a domain and the second stage.
-ghost use Rattle.std.specs.Prelude.{◌≡◌, ◌<◌, ◌≤◌, ◌∷◌, ℕ, true, All, IfOk, OnErr, length, List, slice_set, slice_get, slice_index_or, option_map, Some};
+ghost use Rattle.std.specs.Prelude.{◌≡◌, ◌<◌, ◌≤◌, ◌∷◌, ℕ, true, All, IfOk, OnOk, OnErr, None, length, List, slice_set, slice_get, slice_index_or, option_map, Some};
 ghost use Rattle.neph_model.specs.Births.{end_domain};
 ghost use Rattle.neph_model.specs.Machine.{Exposed, guest_at, is_live, live_count, no_guest};
 ghost use Rattle.neph_model.specs.declared.life.Life.{Life};
@@ -30,7 +30,11 @@ pub fn commit<E: ExposedPages>(
     ensures err { OnErr result (shared_of r.new (E.pages pages.new)
         ≡ shared_of r.old (E.pages pages.old)) }
     ensures fits { E.fits pages.new }
-    ensures keeps { E.keeps pages.old pages.new }
+    ensures born { (child : ℕ) → slice_get (guest_at dom r.old.tables).begun 0 ≡ Some child
+        → OnOk result (E.born pages.old pages.new child) }
+    ensures none { slice_get (guest_at dom r.old.tables).begun 0 ≡ None
+        → E.stays pages.old pages.new }
+    ensures stays { OnErr result (E.stays pages.old pages.new) }
 {
     let Some(child) = r.first_begun(dom) else {
         return Ok(Reply::Done);
@@ -70,14 +74,14 @@ fn born(life: Option<Life>, parent: DomId) -> Option<Life>
     }
 }
 
-/// Ends a live domain.
+/// Ends a domain: nothing is kept of its id, and none of its pages is exposed.
 pub fn end<E: ExposedPages>(r: &mut Registry, pages: &mut E, dom: DomId) -> Reply
     requires fits { E.fits pages.old }
     ensures row { end_domain (shared_of r.old (E.pages pages.old)) dom
         ≡ shared_of r.new (E.pages pages.new) }
     ensures reply { result ≡ Reply.Ended }
     ensures fits { E.fits pages.new }
-    ensures keeps { E.keeps pages.old pages.new }
+    ensures left { E.left pages.old pages.new dom }
 {
     let at = dom.get() as usize;
     clear(&mut r.slots, at);

@@ -18,8 +18,15 @@ pub trait ExposedPages {
     /// What `bear` needs for a child of a parent beside.
     ghost may_bear: { Self → ℕ → ℕ → Type 0 };
 
-    /// What holds of the states before and after each call: all else is as it was.
-    ghost keeps: { Self → Self → Type 0 };
+    /// What holds of the states before and after `read`, `write` and a `bear` that found no memory:
+    /// all but the bytes of exposed pages is as it was.
+    ghost stays: { Self → Self → Type 0 };
+
+    /// What holds of the states before and after a `bear` of this child.
+    ghost born: { Self → Self → ℕ → Type 0 };
+
+    /// What holds of the states before and after the `end` of this domain.
+    ghost left: { Self → Self → ℕ → Type 0 };
 
     /// Whether a page of a domain is exposed.
     fn has(&self, id: DomId, pfn: Pfn) -> bool
@@ -40,7 +47,7 @@ pub trait ExposedPages {
             (drop at (exposed_bytes (pages self.old) id pfn)) }
         ensures same { pages self.new ≡ pages self.old }
         ensures fits { fits self.new }
-        ensures keeps { keeps self.old self.new };
+        ensures stays { stays self.old self.new };
 
     /// Writes bytes to an exposed page, from this offset on.
     fn write(&mut self, id: DomId, pfn: Pfn, at: usize, bytes: &[u8])
@@ -49,7 +56,7 @@ pub trait ExposedPages {
         requires inside { at + length bytes.now ≤ 4096 }
         ensures pages { pages self.new ≡ with_exposed_bytes (pages self.old) id pfn at bytes.now }
         ensures fits { fits self.new }
-        ensures keeps { keeps self.old self.new };
+        ensures stays { stays self.old self.new };
 
     /// Makes the exposed pages of a child from its parent's. Want of memory leaves all as before.
     fn bear(&mut self, child: DomId, parent: DomId) -> Result<(), NoMemory>
@@ -59,15 +66,16 @@ pub trait ExposedPages {
             (child_exposed (exposed_at parent (pages self.old)))) }
         ensures err { OnErr result (pages self.new ≡ pages self.old) }
         ensures fits { fits self.new }
-        ensures keeps { keeps self.old self.new };
+        ensures born { OnOk result (born self.old self.new child) }
+        ensures stays { OnErr result (stays self.old self.new) };
 
     /// Leaves a domain no exposed page.
     fn end(&mut self, id: DomId)
         requires { fits self.old }
         ensures pages { pages self.new ≡ slice_set (pages self.old) id fm.empty }
         ensures fits { fits self.new }
-        ensures keeps { keeps self.old self.new };
+        ensures left { left self.old self.new id };
 
-    // Of one state it holds.
-    ghost keeps_itself: { (a : Self) → fits a → keeps a a };
+    // Where nothing was done, all is as it was.
+    ghost stays_itself: { (a : Self) → fits a → stays a a };
 }

@@ -11,8 +11,8 @@ mod registry;
 mod slots;
 mod trap;
 
-pub use births::{commit, join};
-pub use clone::need;
+pub use births::{commit, end, join};
+pub use clone::{begin, clone_refusal, need, next_child};
 pub use exposed_pages::ExposedPages;
 pub use lent::Lent;
 pub use registry::Registry;

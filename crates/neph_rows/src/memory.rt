@@ -23,7 +23,7 @@ pub fn w_call<E: ExposedPages>(
         (w_call (shared_of r (E.pages pages.old)) dom at bytes.now met)
         ≡ locked (shared_of r (E.pages pages.new)) result }
     ensures fits { E.fits pages.new }
-    ensures keeps { E.keeps pages.old pages.new }
+    ensures stays { E.stays pages.old pages.new }
 {
     let Some(to) = met else {
         return Reply::Refused(Refusal::NoFrame);
@@ -52,7 +52,7 @@ pub fn r_call<E: ExposedPages>(pages: &mut E, dom: DomId, at: usize, len: u8, to
         (r_call (shared_of r (E.pages pages.old)) dom at len (Some to))
         ≡ locked (shared_of r (E.pages pages.new)) result }
     ensures fits { E.fits pages.new }
-    ensures keeps { E.keeps pages.old pages.new }
+    ensures stays { E.stays pages.old pages.new }
 {
     let mut buffer = [0u8; 64];
     let into = &mut buffer[..len as usize];

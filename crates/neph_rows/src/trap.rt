@@ -1,5 +1,5 @@
 // A line of a domain under the lock.
-ghost use Rattle.std.specs.Prelude.{◌≡◌, ◌≤◌};
+ghost use Rattle.std.specs.Prelude.{◌≡◌, ◌≢◌, ◌≤◌};
 ghost use Rattle.neph_model.specs.Step.{locked, shared_line};
 ghost use Rattle.neph_model.specs.Trap.{free_told};
 ghost use Rattle.neph_model.specs.WellFormed.{FitsPage};
@@ -32,7 +32,9 @@ pub fn line<E: ExposedPages>(
         (lent_of lent) told command.now
         ≡ locked (shared_of r.new (E.pages pages.new)) result }
     ensures fits { E.fits pages.new }
-    ensures keeps { E.keeps pages.old pages.new }
+    ensures stays { command.now ≢ Command.Exit → E.stays pages.old pages.new }
+    ensures left { command.now ≡ Command.Exit → E.left pages.old pages.new dom }
+    ensures same { command.now ≢ Command.Clone → command.now ≢ Command.Exit → r.new ≡ r.old }
 {
     match command {
         Command::W { addr, bytes } => w_call(pages, dom, addr.offset(), bytes.bytes(), lent.met),

@@ -1,0 +1,4 @@
+pub mod Sparing
+pub mod Frames
+pub mod Beginning
+pub mod Committing

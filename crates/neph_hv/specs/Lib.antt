@@ -1,0 +1,2 @@
+pub mod Hv
+pub mod Begins

@@ -1,0 +1,11 @@
+//! The hypervisor over any pool of counted frames: its tables, its frames, and what it does under
+//! its lock for the domains, whose memories are handed in.
+#![tactic(auto)]
+
+mod begin;
+mod commit;
+mod end;
+mod hv;
+
+pub use begin::Begin;
+pub use hv::Hv;
