@@ -16,6 +16,7 @@ pub mod Moves
 pub mod Handovers
 pub mod Named
 pub mod Turns
+pub mod Moving
 pub mod Plainly
 pub mod Bare
 pub mod Heaps

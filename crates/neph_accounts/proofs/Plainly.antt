@@ -14,6 +14,7 @@ use Rattle.neph_accounts.proofs.Recolouring.{with_colour}
 use Rattle.neph_accounts.proofs.Bearing.{with_new, stands_committed}
 use Rattle.neph_accounts.proofs.Starting.{stands_opening}
 use Rattle.neph_accounts.proofs.Turns as turns
+use Rattle.neph_accounts.proofs.Moving as moving
 
 pub seats_are_all : law.SeatsAreAll
 seats_are_all p heap accounts h = all_held plain_world p heap accounts h
@@ -79,6 +80,12 @@ pub copy_follows : law.CopyFollows
 copy_follows rows now bs id pfn f o answer st lt n fit put none = (
   with_colour bs.fresh f st.0,
   turns.stands_copy st.0 rows now bs id pfn f o answer st.1 lt n fit put none,
+)
+
+pub move_follows : law.MoveFollows
+move_follows rows now bs id pfn f o answer st lt n fit put none one = (
+  with_colour _ f st.0,
+  moving.stands_move st.0 rows now bs id pfn f st.1 lt fit put none one o answer n,
 )
 
 pub end_follows : law.EndFollows

@@ -119,10 +119,10 @@ stands_same φ rows bs id fresh b st lt le same =
 abbrev pub with_colour : ℕ → ℕ → (ℕ → ℕ) → ℕ → ℕ
 with_colour c f φ d = if d == c then f else φ d
 
-colour_here : (c f : ℕ) (φ : ℕ → ℕ) → with_colour c f φ c ≡ f
+pub colour_here : (c f : ℕ) (φ : ℕ → ℕ) → with_colour c f φ c ≡ f
 colour_here c f φ = rw (eq-eqb c c refl) refl
 
-colour_else : (c f : ℕ) (φ : ℕ → ℕ) (d : ℕ) → d ≢ c → with_colour c f φ d ≡ φ d
+pub colour_else : (c f : ℕ) (φ : ℕ → ℕ) (d : ℕ) → d ≢ c → with_colour c f φ d ≡ φ d
 colour_else c f φ d n = rw (ne_eqb d c n) refl
 
 -- A page moves to a frame under no page, and gets the fresh colour.

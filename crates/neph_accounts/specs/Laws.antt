@@ -13,7 +13,7 @@ use Rattle.neph_model.specs.declared.script.Start.{Start}
 use Rattle.neph_model.specs.declared.own.Own.{Own}
 use Rattle.neph_model.specs.declared.book.Book.{Book}
 use Rattle.neph_model.specs.declared.book.Spends.{Spends}
-use Rattle.neph_model.specs.declared.book.Spends.TheVariants.{Copy}
+use Rattle.neph_model.specs.declared.book.Spends.TheVariants.{Nothing, Copy}
 use Rattle.neph_model.specs.Books.{Books, State, pages_of, book_at, put_book, is_shared, colours_used, counts, free, opening_books}
 use Rattle.neph_model.specs.Turns.{books_after, books_committed}
 use Rattle.neph_accounts.specs.Holdings.{times, no_holding}
@@ -165,6 +165,16 @@ CopyFollows =
     → pfn < length (book_at id bs).colours
     → RowPut id (slice_set (slice_index_or rows id []) pfn f) rows now → pages_on rows f ≡ 0
     → IsStood now (books_after id o (Copy pfn) answer bs)
+
+-- A page that moves to a frame under no page keeps its colour, which no other page has.
+abbrev pub MoveFollows : Type 0
+MoveFollows =
+    (rows now : List (List ℕ)) (bs : Books) (id pfn f : ℕ) (o : Own) (answer : Reply)
+    → IsStood rows bs → id < length bs.list → answer ≢ Ended
+    → pfn < length (book_at id bs).colours
+    → RowPut id (slice_set (slice_index_or rows id []) pfn f) rows now → pages_on rows f ≡ 0
+    → pages_of (slice_index_or (book_at id bs).colours pfn 0) bs ≡ 1
+    → IsStood now (books_after id o Nothing answer bs)
 
 -- The end of a domain takes its colours away with its pages.
 abbrev pub EndFollows : Type 0

@@ -1,5 +1,5 @@
 // Laws of a machine of many seats.
-ghost use Rattle.neph_accounts.specs.Laws.{SeatsAreAll, IdsNameSeats, NewPoolIsFree, HasOneUse, UsesExclude, CountsPages, UsesAllFrames, ColoursAreFrames, FreeIsKept, UsesAreCounts, CountTellsShared, SoleIsOne, StartsApart, QuietKeeps, LineKeeps, CopyFollows, EndFollows, CommitFollows};
+ghost use Rattle.neph_accounts.specs.Laws.{SeatsAreAll, IdsNameSeats, NewPoolIsFree, HasOneUse, UsesExclude, CountsPages, UsesAllFrames, ColoursAreFrames, FreeIsKept, UsesAreCounts, CountTellsShared, SoleIsOne, StartsApart, QuietKeeps, LineKeeps, CopyFollows, MoveFollows, EndFollows, CommitFollows};
 
 /// Where no two seats share a name and each name is some seat's, what each seat has is all.
 pub fn seats_are_all()
@@ -79,6 +79,11 @@ pub fn line_keeps()
 /// A page that is copied gets a colour and a frame of its own.
 pub fn copy_follows()
     ensures { CopyFollows }
+{}
+
+/// A page that moves from a frame under no other page keeps its colour.
+pub fn move_follows()
+    ensures { MoveFollows }
 {}
 
 /// The end of a domain takes the colours of its pages away.

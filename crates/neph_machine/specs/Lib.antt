@@ -1,0 +1,10 @@
+pub mod Surveyed
+pub mod Places
+pub mod Rows
+pub mod Reached
+pub mod StandsFor
+pub mod Turned
+pub mod Lines
+pub mod Ready
+pub mod FrameUses
+pub mod Laws

@@ -1,0 +1,14 @@
+-- What stands in the places of the ids.
+use Rattle.std.specs.Prelude.{ℕ, Bool, true, false, List, slice_index_or}
+use Rattle.neph_machine.specs.declared.place.Place.{Place}
+use Rattle.neph_machine.specs.declared.place.Place.TheVariants.{Empty, Flight, Domain}
+
+-- what stands in the place of an id
+abbrev pub place_at : {Pool Seat : Type 0} → ℕ → List (Place Pool Seat) → Place Pool Seat
+place_at id places = slice_index_or places id Empty
+
+-- no seat but the hypervisor's has the id of this place for a name
+abbrev pub is_empty : {Pool Seat : Type 0} → Place Pool Seat → Bool
+is_empty Empty = true
+is_empty (Flight f) = false
+is_empty (Domain l) = false

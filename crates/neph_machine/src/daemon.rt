@@ -1,0 +1,41 @@
+// The turns of the daemon and of the backends.
+ghost use Rattle.std.specs.Prelude.{◌≡◌, List};
+ghost use Rattle.neph_model.specs.Books.{State};
+ghost use Rattle.neph_model.specs.Machine.{is_over};
+ghost use Rattle.neph_model.specs.Turns.{turn};
+ghost use Rattle.neph_pool.specs.World.{World};
+ghost use Rattle.neph_machine.specs.Reached.{state_after};
+ghost use Rattle.neph_machine.specs.StandsFor.{StandsFor};
+ghost use Rattle.neph_machine.specs.Turned.{TookOrLacked};
+
+use crate::machine::Machine;
+use crate::turn::Turn;
+use neph_base::{Actor, Entry, NoMemory, Noted};
+use neph_pool::FramePool;
+
+impl<P: FramePool> Machine<P> {
+    /// The turn of the daemon: the second stage of the oldest committed clone, where one waits.
+    /// Takes no memory.
+    pub fn daemon_turn(&mut self) -> Result<Turn, NoMemory>
+        ensures { (before : List Actor)
+            → StandsFor P.world self.old (state_after self.old.script before)
+            → TookOrLacked P.world self.old self.new (state_after self.old.script before)
+            (turn self.old.script (state_after self.old.script before) Actor.Daemon) result }
+    {
+        if !self.hv.registry.has_waiting() {
+            return Ok(Turn::Rested);
+        }
+        let reply = self.hv.finish();
+        Ok(Turn::Noted(Noted {
+            entry: Entry::Daemon,
+            reply,
+        }))
+    }
+
+    /// Whether no domain is live.
+    pub fn is_over(&self) -> bool
+        ensures { (st : State) → StandsFor P.world self.now st → result ≡ is_over st.machine }
+    {
+        self.hv.registry.live_count() == 0
+    }
+}
