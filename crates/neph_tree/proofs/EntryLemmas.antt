@@ -155,6 +155,9 @@ module _ {A : Type 0} where
       let read : Vec ℕ A × Vec ℕ A → List ℕ × List ℕ = λ e. (e.0.items, e.1.items) in
       entry_twice r ∙ ap (λ o. option_map read o) found ∙ sym (slice_get-shown es i) ∙ ap (λ all. slice_get all i) (sym (entries-shown es ordered) ∙ ap (λ n. entries n) is)
 
+  pub there_shown : (es : List (Vec ℕ A × Vec ℕ A)) (q : List ℕ) → contains_key (from_entries {R = order} (shown es)) q ≡ is_some (lookup (is_at (λ k. order q k.items)) es)
+  there_shown es q = ap is_some (get-shown es q) ∙ some_mapped (λ v. v.items) _
+
   -- a key of the map is one of the tree
   pub some_shown : (es : List (Vec ℕ A × Vec ℕ A)) (m : FinMap order (List ℕ)) (q : List ℕ) → from_entries {R = order} (shown es) ≡ m → contains_key m q ≡ true → is_some (lookup (is_at (λ k. order q k.items)) es) ≡ true
   some_shown es m q is there = sym (some_mapped (λ v. v.items) _) ∙ ap is_some (sym (get-shown es q) ∙ ap (λ n. get n q) is) ∙ there

@@ -1,5 +1,11 @@
+pub mod AboveLemmas
+pub mod CountLemmas
+pub mod CutLemmas
 pub mod EntryLemmas
 pub mod GrowthLemmas
+pub mod HomeLemmas
+pub mod LimitLemmas
+pub mod NameLemmas
 pub mod OrderLemmas
 pub mod PlaceLemmas
 pub mod RunLemmas

@@ -101,7 +101,7 @@ module _ (m : Nodes) (top : List ℕ) (long : length top ≢ 1) where
       find-where_key order (λ x. is_some (behind (top ++ slash ∷ []) x)) q (λ x e. ap (λ y. is_some (behind (top ++ slash ∷ []) y)) (sym (tied_same q x (ap is_eq e)))) (entries m)
       ∙ ap (λ o. cond (is_some (behind (top ++ slash ∷ []) q)) o None) (sym (get-entries m q))
 
-  within_is : (q : List ℕ) → is_within top q ≡ (pointwise nat_eq q top || is_some (behind (top ++ slash ∷ []) q))
+  pub within_is : (q : List ℕ) → is_within top q ≡ (pointwise nat_eq q top || is_some (behind (top ++ slash ∷ []) q))
   within_is q =
       elim (length top == 1) as (λ b. (length top == 1) ≡ b → (pointwise nat_eq q top || is_some (behind (cond b top (top ++ slash ∷ [])) q)) ≡ (pointwise nat_eq q top || is_some (behind (top ++ slash ∷ []) q))) [
         | true ↦ λ e. absurd (long (eqb-true (length top) 1 e))

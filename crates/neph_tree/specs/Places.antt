@@ -1,5 +1,5 @@
 -- Where a path stands below another, and the paths of the domains.
-use Rattle.std.specs.Prelude.{◌==◌, ◌&&◌, ◌||◌, ◌∷◌, ◌++◌, ◌+◌, ◌/◌, ◌%◌, [], ℕ, Bool, not, List, Option, Some, None, length, map, is_some, nat_lt, nat_eq, codes, if◌then◌else◌}
+use Rattle.std.specs.Prelude.{◌≡◌, ◌<◌, true, drop, get_or, ◌==◌, ◌&&◌, ◌||◌, ◌∷◌, ◌++◌, ◌+◌, ◌/◌, ◌%◌, [], ℕ, Bool, not, List, Option, Some, None, length, map, is_some, nat_lt, nat_eq, codes, if◌then◌else◌}
 use Rattle.std.specs.List.{list_all, join_with_byte}
 use Rattle.std.specs.Cmp.Lexicographic.{pointwise}
 use Rattle.neph_base.specs.Path.{slash}
@@ -42,6 +42,12 @@ as_name (Some text) = if is_name text then Some text else None
 -- the name of a child of this directory, None of every other path
 abbrev pub child_name : List ℕ → List ℕ → Option (List ℕ)
 child_name directory path = as_name (rest_below directory path)
+
+-- a slash stands at this place, and none behind it
+pub record IsLastSlash (path : List ℕ) (end : ℕ) : Type 0 where
+  pub inside : end < length path
+  pub there : get_or path end 0 ≡ slash
+  pub last : list_all (λ b. not (b == slash)) (drop (end + 1) path) ≡ true
 
 -- the fronts of a text that end before a slash, shortest first
 abbrev pub cuts : List ℕ → List (List ℕ)

@@ -1,5 +1,5 @@
 // Nodes that are made with those above them.
-ghost use Rattle.std.specs.Prelude.{◌≡◌, ◌≤◌, None, IsTrue, IfOk, OnOk, OnErr, length};
+ghost use Rattle.std.specs.Prelude.{◌≡◌, ◌≤◌, true, None, IsTrue, IfOk, OnOk, OnErr, length};
 ghost use Rattle.std.specs.Option.{ForSome};
 ghost use Rattle.std.specs.FinMap as map;
 ghost use Rattle.neph_base.specs.Path.{is_path};
@@ -9,6 +9,7 @@ ghost use Rattle.neph_tree.specs.Entries.{shown};
 ghost use Rattle.neph_tree.specs.Growth.{first_made, IsGrown, IsMade, without_front, with_path, with_paths, with_values, ArePaths, HasEach};
 
 use crate::node_map::NodeMap;
+use crate::places::last_slash;
 use neph_base::{NoMemory, SLASH};
 
 // Makes the node and those above it that are missing. It hands back the length of the path of the
@@ -51,6 +52,7 @@ fn grow_and_set(
     value: Vec<u8>,
     top: &mut Option<usize>,
 ) -> Result<(), NoMemory>
+    requires tree { IsTree nodes.old }
     requires path { IsTrue (is_path path.now) }
     requires top { top.old ≡ None }
     ensures ok { OnOk result (nodes.new ≡ with_node nodes.old path.now value.items) }
@@ -65,12 +67,16 @@ fn grow_and_set(
 // Makes the nodes above it that are missing. `top` tells the length of the first that was made, also
 // after want of memory.
 fn grow(nodes: &mut NodeMap, path: &[u8], top: &mut Option<usize>) -> Result<(), NoMemory>
+    requires tree { IsTree nodes.old }
     requires path { IsTrue (is_path path.now) }
     requires top { top.old ≡ None }
     ensures ok { OnOk result (nodes.new ≡ with_each_missing nodes.old (ancestors path.now)) }
     ensures grown { IsGrown nodes.old nodes.new path.now top.new (length path.now) }
 {
     if path.len() == 1 {
+        return Ok(());
+    }
+    if has_above(nodes, path) {
         return Ok(());
     }
     make_front(nodes, &path[..1], top)?;
@@ -81,6 +87,18 @@ fn grow(nodes: &mut NodeMap, path: &[u8], top: &mut Option<usize>) -> Result<(),
         }
     }
     Ok(())
+}
+
+// Whether the path above it is there, where that isn't `/`: then all above it are.
+fn has_above(nodes: &NodeMap, path: &[u8]) -> bool
+    requires tree { IsTree nodes.now }
+    requires path { IsTrue (is_path path.now) }
+    ensures { result ≡ true → with_each_missing nodes.now (ancestors path.now) ≡ nodes.now }
+{
+    match last_slash(path) {
+        Some(end) if end > 0 => nodes.contains(&path[..end]),
+        _ => false,
+    }
 }
 
 // Makes a node of empty value, if there is none.
@@ -142,6 +160,7 @@ fn make(nodes: &mut NodeMap, path: &[u8]) -> Result<Option<usize>, NoMemory>
 
 // `make` without its last step: after want of memory some nodes are made.
 fn grow_whole(nodes: &mut NodeMap, path: &[u8], top: &mut Option<usize>) -> Result<(), NoMemory>
+    requires tree { IsTree nodes.old }
     requires path { IsTrue (is_path path.now) }
     requires top { top.old ≡ None }
     ensures ok { OnOk result (nodes.new ≡ with_path nodes.old path.now) }

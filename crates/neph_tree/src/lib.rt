@@ -2,11 +2,13 @@
 #![tactic(auto)]
 
 mod growth;
+mod homes;
 mod limit;
 mod node_map;
 mod place;
 mod places;
 mod refusals;
+mod runs;
 #[cfg(test)]
 mod tests;
 mod tree;

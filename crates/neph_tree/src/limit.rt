@@ -3,39 +3,41 @@ ghost use Rattle.std.specs.Prelude.{◌≡◌, ◌⊎◌, true, false, IsTrue, I
 ghost use Rattle.std.specs.FinMap.{contains_key};
 ghost use Rattle.neph_base.specs.Path.{is_path};
 ghost use Rattle.neph_tree.specs.Nodes.{IsTree, with_node};
+ghost use Rattle.neph_tree.specs.Places.{home};
 ghost use Rattle.neph_tree.specs.Refusals.{is_over};
 
 use crate::growth::{cut_front, put};
 use crate::node_map::NodeMap;
 use crate::refusals::{DOMAIN_NODES, WriteRefused};
+use neph_base::DomId;
 
-// Sets a node, where `home` doesn't come to more than `DOMAIN_NODES` nodes.
+// Sets a node, where the domain's home doesn't come to more than `DOMAIN_NODES` nodes.
 pub(crate) fn put_within(
     nodes: &mut NodeMap,
-    home: &[u8],
+    me: DomId,
     path: &[u8],
     value: Vec<u8>,
 ) -> Result<(), WriteRefused>
     requires tree { IsTree nodes.old }
     requires path { IsTrue (is_path path.now) }
     ensures ok { OnOk result (nodes.new ≡ with_node nodes.old path.now value.items) }
-    ensures allowed { OnOk result (is_over (with_node nodes.old path.now value.items) home.now ≡ false) }
+    ensures allowed { OnOk result (is_over (with_node nodes.old path.now value.items) (home me) ≡ false) }
     ensures why { IfErr result (λ why. (why ≡ WriteRefused.NoMemory)
         ⊎ ((why ≡ WriteRefused.NodeLimit)
-        × (is_over (with_node nodes.old path.now value.items) home.now ≡ true))) }
+        × (is_over (with_node nodes.old path.now value.items) (home me) ≡ true))) }
     ensures err { OnErr result (nodes.new ≡ nodes.old) }
 {
     if nodes.contains(path) {
-        replace_within(nodes, home, path, value)
+        replace_within(nodes, me, path, value)
     } else {
-        make_within(nodes, home, path, value)
+        make_within(nodes, me, path, value)
     }
 }
 
 // The same of a node that is there: the count stays.
 fn replace_within(
     nodes: &mut NodeMap,
-    home: &[u8],
+    me: DomId,
     path: &[u8],
     value: Vec<u8>,
 ) -> Result<(), WriteRefused>
@@ -43,17 +45,17 @@ fn replace_within(
     requires path { IsTrue (is_path path.now) }
     requires there { contains_key nodes.old path.now ≡ true }
     ensures ok { OnOk result (nodes.new ≡ with_node nodes.old path.now value.items) }
-    ensures allowed { OnOk result (is_over (with_node nodes.old path.now value.items) home.now ≡ false) }
+    ensures allowed { OnOk result (is_over (with_node nodes.old path.now value.items) (home me) ≡ false) }
     ensures why { IfErr result (λ why. (why ≡ WriteRefused.NoMemory)
         ⊎ ((why ≡ WriteRefused.NodeLimit)
-        × (is_over (with_node nodes.old path.now value.items) home.now ≡ true))) }
+        × (is_over (with_node nodes.old path.now value.items) (home me) ≡ true))) }
     ensures err { OnErr result (nodes.new ≡ nodes.old) }
 {
-    if is_over(nodes, home) {
+    if is_over(nodes, me) {
         return Err(WriteRefused::NodeLimit);
     }
-    match put(nodes, path, value) {
-        Ok(_) => Ok(()),
+    match nodes.set(path, value) {
+        Ok(()) => Ok(()),
         Err(_) => Err(WriteRefused::NoMemory),
     }
 }
@@ -61,7 +63,7 @@ fn replace_within(
 // The same of a node that isn't: it is made, and taken back where it is too many.
 fn make_within(
     nodes: &mut NodeMap,
-    home: &[u8],
+    me: DomId,
     path: &[u8],
     value: Vec<u8>,
 ) -> Result<(), WriteRefused>
@@ -69,15 +71,15 @@ fn make_within(
     requires path { IsTrue (is_path path.now) }
     requires new { contains_key nodes.old path.now ≡ false }
     ensures ok { OnOk result (nodes.new ≡ with_node nodes.old path.now value.items) }
-    ensures allowed { OnOk result (is_over (with_node nodes.old path.now value.items) home.now ≡ false) }
+    ensures allowed { OnOk result (is_over (with_node nodes.old path.now value.items) (home me) ≡ false) }
     ensures why { IfErr result (λ why. (why ≡ WriteRefused.NoMemory)
         ⊎ ((why ≡ WriteRefused.NodeLimit)
-        × (is_over (with_node nodes.old path.now value.items) home.now ≡ true))) }
+        × (is_over (with_node nodes.old path.now value.items) (home me) ≡ true))) }
     ensures err { OnErr result (nodes.new ≡ nodes.old) }
 {
     match put(nodes, path, value) {
         Ok(top) => {
-            if is_over(nodes, home) {
+            if is_over(nodes, me) {
                 cut_front(nodes, path, top);
                 return Err(WriteRefused::NodeLimit);
             }
@@ -87,8 +89,8 @@ fn make_within(
     }
 }
 
-fn is_over(nodes: &NodeMap, home: &[u8]) -> bool
-    ensures { result ≡ is_over nodes.now home.now }
+fn is_over(nodes: &NodeMap, me: DomId) -> bool
+    ensures { result ≡ is_over nodes.now (home me) }
 {
-    nodes.count_within(home) > DOMAIN_NODES
+    nodes.count_of(me) > DOMAIN_NODES
 }

@@ -7,9 +7,12 @@ ghost use Rattle.std.specs.List.Sorted.{IsStrictlySortedBy};
 ghost use Rattle.std.specs.FinMap as map;
 ghost use Rattle.neph_tree.specs.Entries.{entry_at};
 ghost use Rattle.neph_tree.specs.Nodes.{subtree, child_names, without};
+ghost use Rattle.neph_tree.specs.Places.{home};
 
+use crate::homes::{HOMES, count_down, count_up, no_counts};
 use crate::places::{child_name, is_within};
-use neph_base::{Bytes, Name, Names, NoMemory, SLASH};
+use crate::runs::{cut_entries, with_byte};
+use neph_base::{Bytes, DomId, Name, Names, NoMemory, SLASH};
 use std::alloc::Global;
 use std::collections::BTreeMap;
 use std::marker::Model;
@@ -18,6 +21,8 @@ use std::marker::Model;
 pub(crate) struct NodeMap {
     alloc: Global,
     entries: BTreeMap<Vec<u8>, Vec<u8>>,
+    // How many nodes are within each domain's home.
+    homes: [u32; HOMES],
 }
 
 impl Model for NodeMap {
@@ -28,6 +33,7 @@ impl Model for NodeMap {
     ghost use Rattle.std.specs.FinMap as map;
     ghost use Rattle.std.specs.Coded.{coded_ℕ, coded_list};
     ghost use Rattle.neph_tree.specs.Entries.{shown};
+    ghost use Rattle.neph_tree.specs.Counts.{AreCounted};
 
     ghost Value = { map.FinMap (slice_cmp nat_cmp) (List ℕ) };
 
@@ -35,7 +41,8 @@ impl Model for NodeMap {
 
     ghost view = { λ a. map.from_entries (shown a.entries.entries) };
 
-    ghost invariant = { λ a. btree_map_len a.entries < 2 ^ 32 };
+    ghost invariant = { λ a. (btree_map_len a.entries < 2 ^ 32)
+        × AreCounted a.homes (map.from_entries (shown a.entries.entries)) };
 }
 
 impl NodeMap {
@@ -45,6 +52,7 @@ impl NodeMap {
         NodeMap {
             alloc,
             entries: BTreeMap::new(alloc),
+            homes: no_counts(),
         }
     }
 
@@ -69,17 +77,11 @@ impl NodeMap {
         self.entries.len() as u32
     }
 
-    // How many nodes are within `top`.
-    pub(crate) fn count_within(&self, top: &[u8]) -> u32
-        ensures { result ≡ map.len (subtree self.now top.now) }
+    // How many nodes are within the domain's home.
+    pub(crate) fn count_of(&self, me: DomId) -> u32
+        ensures { result ≡ map.len (subtree self.now (home me)) }
     {
-        let mut count = 0;
-        for (path, _) in self.entries.iter() {
-            if is_within(top, path) {
-                count += 1;
-            }
-        }
-        count
+        self.homes[me.get() as usize]
     }
 
     // The nodes within `top`, in the order of their paths.
@@ -144,8 +146,36 @@ impl NodeMap {
         ensures names { IfOk result (λ names. names ≡ child_names self.now directory.now) }
         ensures order { IfOk result (λ names. IsStrictlySortedBy (slice_cmp nat_cmp) names) }
     {
+        if directory.len() == 1 {
+            return self.names_of_all(directory);
+        }
+        self.names_of_run(directory)
+    }
+
+    // The same by a look at each node, of `/`.
+    fn names_of_all(&self, directory: &[u8]) -> Result<Names, NoMemory>
+        ensures names { IfOk result (λ names. names ≡ child_names self.now directory.now) }
+        ensures order { IfOk result (λ names. IsStrictlySortedBy (slice_cmp nat_cmp) names) }
+    {
         let mut names = Vec::new(self.alloc);
         for path in self.entries.keys() {
+            if let Some(name) = child_name(directory, path) {
+                names.push(Name::of(copy_of(self.alloc, name)?))?;
+            }
+        }
+        Ok(Names::of(names))
+    }
+
+    // The same of a longer path, by a look at each node below it.
+    fn names_of_run(&self, directory: &[u8]) -> Result<Names, NoMemory>
+        requires { length directory.now ≢ 1 }
+        ensures names { IfOk result (λ names. names ≡ child_names self.now directory.now) }
+        ensures order { IfOk result (λ names. IsStrictlySortedBy (slice_cmp nat_cmp) names) }
+    {
+        let mut names = Vec::new(self.alloc);
+        let low = with_byte(self.alloc, directory, SLASH)?;
+        let high = with_byte(self.alloc, directory, SLASH + 1)?;
+        for (path, _) in self.entries.range(low..high) {
             if let Some(name) = child_name(directory, path) {
                 names.push(Name::of(copy_of(self.alloc, name)?))?;
             }
@@ -171,8 +201,13 @@ impl NodeMap {
             return Err(NoMemory);
         }
         let key = copy_of(self.alloc, path)?;
-        self.entries.insert(key, value)?;
-        Ok(())
+        match self.entries.insert(key, value)? {
+            Some(_) => Ok(()),
+            None => {
+                count_up(&mut self.homes, path);
+                Ok(())
+            }
+        }
     }
 
     // Gives a node that is there another value, for which it needs no memory.
@@ -196,17 +231,11 @@ impl NodeMap {
     pub(crate) fn cut(&mut self, top: &[u8])
         ensures { self.new ≡ without self.old top.now }
     {
-        self.entries.retain(|path, _| !is_within(top, path));
+        let before = self.entries.len();
+        cut_entries(self.alloc, &mut self.entries, top);
+        let gone = before - self.entries.len();
+        count_down(&mut self.homes, top, gone as u32);
     }
-}
-
-// The text with one byte behind it.
-fn with_byte(alloc: Global, text: &[u8], byte: u8) -> Result<Vec<u8>, NoMemory>
-    ensures { IfOk result (λ longer. longer.items ≡ text.now ++ byte ∷ []) }
-{
-    let mut longer = copy_of(alloc, text)?;
-    longer.push(byte)?;
-    Ok(longer)
 }
 
 // The bytes, in memory of their own.

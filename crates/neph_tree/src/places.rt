@@ -1,7 +1,7 @@
 // Where a path stands below another.
 ghost use Rattle.std.specs.Prelude.{◌≡◌};
-ghost use Rattle.std.specs.Option.{option_copied};
-ghost use Rattle.neph_tree.specs.Places.{rest_below, is_within, is_name, child_name};
+ghost use Rattle.std.specs.Option.{option_copied, IfSome};
+ghost use Rattle.neph_tree.specs.Places.{rest_below, is_within, is_name, child_name, IsLastSlash};
 
 use neph_base::SLASH;
 
@@ -38,4 +38,18 @@ pub(crate) fn child_name<'p>(directory: &[u8], path: &'p [u8]) -> Option<&'p [u8
         Some(name) if is_name(name) => Some(name),
         _ => None,
     }
+}
+
+// The place of the last slash.
+pub(crate) fn last_slash(path: &[u8]) -> Option<usize>
+    ensures { IfSome result (λ end. IsLastSlash path.now end) }
+{
+    let mut end = path.len();
+    while end > 0 {
+        end -= 1;
+        if path[end] == SLASH {
+            return Some(end);
+        }
+    }
+    None
 }

@@ -96,7 +96,7 @@ impl Tree {
             return Err(WriteRefused::NotYours);
         }
         match copy_of(self.alloc, v) {
-            Ok(value) => put_within(&mut self.nodes, home.bytes(), p.bytes(), value),
+            Ok(value) => put_within(&mut self.nodes, me, p.bytes(), value),
             Err(_) => Err(WriteRefused::NoMemory),
         }
     }

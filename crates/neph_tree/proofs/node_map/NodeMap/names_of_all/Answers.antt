@@ -7,12 +7,9 @@ use Rattle.neph_tree.specs.Places.{child_name}
 use Rattle.neph_tree.specs.Entries.{shown}
 use Rattle.neph_tree.proofs.EntryLemmas.{order, entries-shown, sorted-shown}
 use Rattle.neph_tree.proofs.OrderLemmas.{sorted_names}
+use Rattle.neph_tree.proofs.NameLemmas.{keys_twice}
 use Rattle.std.specs.List.Sorted.{IsStrictlySortedBy}
-use Rattle.neph_tree.proofs.node_map.NodeMap.child_names.Goals as goal
-
-keys_twice : {A : Type 0} (es : List (Vec ℕ A × Vec ℕ A)) → map (λ e. e.0) (shown es) ≡ map (λ e. e.0.items) es
-keys_twice [] = refl
-keys_twice (e ∷ es) = ap (λ ks. e.0.items ∷ ks) (keys_twice es)
+use Rattle.neph_tree.proofs.node_map.NodeMap.names_of_all.Goals as goal
 
 keys_apart : {A : Type 0} (es : List (Vec ℕ A × Vec ℕ A)) → map (λ k. k.items) (map (λ e. e.0) es) ≡ map (λ e. e.0.items) es
 keys_apart [] = refl
