@@ -72,4 +72,5 @@ entry_bytes_of t r reading writing =
 
 -- an entry of some reference names this page
 abbrev pub HasEntryOf : Grants → ℕ → Type 0
-HasEntryOf t p = (r : ℕ) × (e : GrantEntry) × (r < GRANT_REFS) × (map.get t r ≡ Some e) × (e.pfn ≡ p)
+HasEntryOf t p =
+    (r : ℕ) × (e : GrantEntry) × (r < GRANT_REFS) × (map.get t r ≡ Some e) × (e.pfn ≡ p)

@@ -14,14 +14,21 @@ use Rattle.neph_net.specs.Families.{Families, with_drop}
 -- a packet went to a receiver's page, or was dropped since its receive part is full
 abbrev pub GoesTo : Moved → ℕ → Packet → Families → Families → List ℕ → List ℕ → Type 0
 GoesTo Delivered sender p old new page after =
-    (net_count Receive page < NET_SLOTS) × (new ≡ old) × PutsPacket Receive page (record p { family = sender }) after
-GoesTo Dropped sender p old new page after = (NET_SLOTS ≤ net_count Receive page) × (new ≡ with_drop old p.family) × (after ≡ page)
+    (net_count Receive page < NET_SLOTS) × (new ≡ old)
+    × PutsPacket Receive page (record p { family = sender }) after
+GoesTo Dropped sender p old new page after =
+    (NET_SLOTS ≤ net_count Receive page) × (new ≡ with_drop old p.family) × (after ≡ page)
 
 -- the same where there is a receiver; where there is none, the packet is dropped
-abbrev pub IsDelivery : {W : Type 0} → (W → List ℕ) → (W → W → Type 0) → Moved → ℕ → Packet → Families → Families → Option W → Option W → Type 0
+abbrev pub IsDelivery :
+    {W : Type 0} → (W → List ℕ) → (W → W → Type 0) → Moved → ℕ → Packet
+    → Families → Families → Option W → Option W → Type 0
 IsDelivery words rest moved sender p old new (Some x) (Some y) =
-    GoesTo moved sender p old new (bytes_of_words (words x)) (bytes_of_words (words y)) × IsNetwork (bytes_of_words (words y)) × rest x y
-IsDelivery words rest moved sender p old new None None = (moved ≡ Dropped) × (new ≡ with_drop old p.family)
+    let page = bytes_of_words (words x) in
+    let after = bytes_of_words (words y) in
+    GoesTo moved sender p old new page after × IsNetwork after × rest x y
+IsDelivery words rest moved sender p old new None None =
+    (moved ≡ Dropped) × (new ≡ with_drop old p.family)
 IsDelivery words rest moved sender p old new x y = ⊥
 
 -- what lies behind a reference that was passed in an option, at the return

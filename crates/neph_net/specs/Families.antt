@@ -1,5 +1,5 @@
 -- The families of the switch.
-use Rattle.std.specs.Prelude.{◌==◌, ◌+◌, ◌-◌, ◌^◌, min, slice_index, slice_set, ℕ, Bool, true, false, List, None, Some, filter, slice_index_or}
+use Rattle.std.specs.Prelude.{◌==◌, ◌+◌, ◌-◌, ◌^◌, min, slice_index, slice_set, ℕ, Bool, false, List, None, Some, filter, slice_index_or}
 use Rattle.std.specs.List.{range_with_len}
 use Rattle.std.specs.declared.option.Option.{Option}
 
@@ -8,6 +8,7 @@ pub record Families : Type 0 where
   pub family_of : List (Option ℕ)
   pub drops : List ℕ
 
+-- this is the family, where there is one
 abbrev pub is_family : ℕ → Option ℕ → Bool
 is_family f None = false
 is_family f (Some g) = g == f
@@ -22,4 +23,5 @@ members s f = filter (is_member s f) (range_with_len 0 64)
 
 -- one more packet to a family was dropped; the count stops at its end
 abbrev pub with_drop : Families → ℕ → Families
-with_drop s f = record s { drops = slice_set s.drops f (min (slice_index s.drops f + 1) (2 ^ 32 - 1)) }
+with_drop s f =
+    record s { drops = slice_set s.drops f (min (slice_index s.drops f + 1) (2 ^ 32 - 1)) }

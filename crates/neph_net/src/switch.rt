@@ -38,10 +38,8 @@ impl Switch {
 
     /// Makes a domain a member of a family, and of no other.
     pub fn join(&mut self, family: u8, d: DomId)
-        ensures { self.new ≡ record self.old {
-          family_of
-              = slice_set self.old.family_of d (Some family);
-        } }
+        ensures { self.new
+            ≡ record self.old { family_of = slice_set self.old.family_of d (Some family) } }
     {
         self.family_of[d.get() as usize] = Some(family);
     }

@@ -25,6 +25,10 @@ string text = counted 2 text
 abbrev pub payload : List ℕ → List ℕ
 payload bytes = counted 4 bytes
 
+-- values behind their count, which stands in two bytes
+abbrev pub series : {A : Type 0} → (A → List ℕ) → List A → List ℕ
+series one values = number 2 (length values) ++ flat_map one values
+
 -- the type byte of a qid
 abbrev pub qid_type : Bool → ℕ
 qid_type true = QTDIR
@@ -56,11 +60,12 @@ type_of Rclunk = RCLUNK
 abbrev pub body_bytes : MsgBody → List ℕ
 body_bytes (Tversion msize version) = number 4 msize ++ string version
 body_bytes (Rversion msize version) = number 4 msize ++ string version
-body_bytes (Tattach fid afid uname aname) = number 4 fid ++ number 4 afid ++ string uname ++ string aname
+body_bytes (Tattach fid afid uname aname) =
+    number 4 fid ++ number 4 afid ++ string uname ++ string aname
 body_bytes (Rattach root) = qid root
 body_bytes (Rerror ename) = string ename
-body_bytes (Twalk fid newfid names) = number 4 fid ++ number 4 newfid ++ number 2 (length names) ++ flat_map string names
-body_bytes (Rwalk qids) = number 2 (length qids) ++ flat_map qid qids
+body_bytes (Twalk fid newfid names) = number 4 fid ++ number 4 newfid ++ series string names
+body_bytes (Rwalk qids) = series qid qids
 body_bytes (Topen fid mode) = number 4 fid ++ mode ∷ []
 body_bytes (Ropen node iounit) = qid node ++ number 4 iounit
 body_bytes (Tread fid offset count) = number 4 fid ++ number 8 offset ++ number 4 count
@@ -72,7 +77,9 @@ body_bytes Rclunk = []
 
 -- the bytes of a message: its size, which counts itself, its type, its tag and its body
 abbrev pub bytes_of : Msg → List ℕ
-bytes_of m = number 4 (7 + length (body_bytes m.body)) ++ type_of m.body ∷ number 2 m.tag ++ body_bytes m.body
+bytes_of m =
+    number 4 (7 + length (body_bytes m.body))
+    ++ type_of m.body ∷ number 2 m.tag ++ body_bytes m.body
 
 -- a number has at most so many bytes
 abbrev pub Fits : ℕ → ℕ → Type 0
@@ -89,7 +96,8 @@ IsBody (Rversion msize version) = Fits 4 msize × IsString version
 IsBody (Tattach fid afid uname aname) = Fits 4 fid × Fits 4 afid × IsString uname × IsString aname
 IsBody (Rattach root) = Fits 8 root.path
 IsBody (Rerror ename) = IsString ename
-IsBody (Twalk fid newfid names) = Fits 4 fid × Fits 4 newfid × (length names ≤ MAXWELEM) × AllByRecursion IsString names
+IsBody (Twalk fid newfid names) =
+    Fits 4 fid × Fits 4 newfid × (length names ≤ MAXWELEM) × AllByRecursion IsString names
 IsBody (Rwalk qids) = Fits 2 (length qids) × AllByRecursion (λ q. Fits 8 q.path) qids
 IsBody (Topen fid mode) = Fits 4 fid × Fits 1 mode
 IsBody (Ropen node iounit) = Fits 8 node.path × Fits 4 iounit

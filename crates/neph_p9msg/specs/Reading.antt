@@ -1,4 +1,5 @@
--- Reading a message from left to right. Each reader gives a value and the bytes behind it, or nothing.
+-- Reading a message from left to right. Each reader gives a value and the bytes behind it, or
+-- nothing.
 use Rattle.std.specs.Prelude.{◌≡◌, ℕ, zero, suc, Bool, true, false, List, [], ◌∷◌, length, drop, take, Option, Some, None, Result, Ok, Err, nat_lt, ◌==◌, if◌then◌else◌}
 use Rattle.byteorder.specs.Endian.{little_number}
 use Rattle.neph_p9msg.specs.declared.msg.TheConstants.{MSIZE, MAXWELEM, QTDIR, QTFILE}
@@ -17,18 +18,23 @@ abbrev pub ◌>>=◌ : {A B : Type 0} → Option A → (A → Option B) → Opti
 (Some x) >>= f = f x
 None >>= f = None
 
--- what a function returned, seen by view, is what reading gives, unless memory ran out
+-- memory ran out, or nothing is read
 abbrev pub Fails : {Y : Type 0} → ReadError → Option Y → Type 0
 Fails Memory read = Unit {0}
 Fails NoMessage read = read ≡ None
 
+-- what a function returned, seen by `view`, is what reading gives, unless memory ran out
 abbrev pub Gives : {X Y : Type 0} → (X → Y) → Result X ReadError → Option Y → Type 0
 Gives view (Ok x) read = read ≡ Some (view x)
 Gives view (Err e) read = Fails e read
 
+-- a number of so many bytes
 abbrev pub number_at : ℕ → List ℕ → Option (ℕ × List ℕ)
-number_at size bytes = if nat_lt (length bytes) size then None else Some (little_number size bytes, drop size bytes)
+number_at size bytes =
+    if nat_lt (length bytes) size then None
+    else Some (little_number size bytes, drop size bytes)
 
+-- one byte
 unfoldable pub byte_at : List ℕ → Option (ℕ × List ℕ)
 byte_at [] = None
 byte_at (b ∷ rest) = Some (b, rest)
@@ -37,6 +43,7 @@ byte_at (b ∷ rest) = Some (b, rest)
 unfoldable pub bytes_at : ℕ → List ℕ → Option (List ℕ × List ℕ)
 bytes_at n bytes = if nat_lt (length bytes) n then None else Some (take n bytes, drop n bytes)
 
+-- bytes behind their count
 unfoldable pub counted_at : ℕ → List ℕ → Option (List ℕ × List ℕ)
 counted_at size bytes = do
   n ← number_at size bytes
@@ -48,9 +55,11 @@ version_at bytes = do
   version ← number_at 4 bytes
   if version.0 == 0 then Some version.1 else None
 
+-- whether a qid of this type byte is a directory's
 unfoldable pub dir_of : ℕ → Option Bool
 dir_of b = if b == QTDIR then Some true else (if b == QTFILE then Some false else None)
 
+-- a qid
 unfoldable pub qid_at : List ℕ → Option (Qid × List ℕ)
 qid_at bytes = do
   b ← byte_at bytes
@@ -60,7 +69,8 @@ qid_at bytes = do
   Some (record { dir = dir; path = path.0 }, path.1)
 
 -- so many values, one behind the other
-unfoldable pub many_at : {A : Type 0} → (List ℕ → Option (A × List ℕ)) → ℕ → List ℕ → Option (List A × List ℕ)
+unfoldable pub many_at :
+    {A : Type 0} → (List ℕ → Option (A × List ℕ)) → ℕ → List ℕ → Option (List A × List ℕ)
 many_at one_at zero bytes = Some ([], bytes)
 many_at one_at (suc n) bytes = do
   first ← one_at bytes
@@ -79,6 +89,7 @@ qids_at bytes = do
   n ← number_at 2 bytes
   many_at qid_at n.0 n.1
 
+-- the kind of this number
 unfoldable pub kind_at : ℕ → Option MsgType
 kind_at n =
     if n == TVERSION then Some kinds.Tversion else (if n == RVERSION then Some kinds.Rversion else
@@ -173,6 +184,7 @@ tclunk_at bytes = do
   fid ← number_at 4 bytes
   Some (Tclunk fid.0, fid.1)
 
+-- the fields of a message of this kind
 unfoldable pub body_at : MsgType → List ℕ → Option (MsgBody × List ℕ)
 body_at kinds.Tversion bytes = tversion_at bytes
 body_at kinds.Rversion bytes = rversion_at bytes
@@ -194,7 +206,8 @@ body_at kinds.Rclunk bytes = Some (Rclunk, bytes)
 unfoldable pub sized_at : List ℕ → Option (List ℕ)
 sized_at bytes = do
   size ← number_at 4 bytes
-  if size.0 == length bytes then (if nat_lt MSIZE (length bytes) then None else Some size.1) else None
+  if size.0 == length bytes then (if nat_lt MSIZE (length bytes) then None else Some size.1)
+      else None
 
 -- all of the bytes
 unfoldable pub message_of : List ℕ → Option Msg

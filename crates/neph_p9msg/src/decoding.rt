@@ -206,8 +206,9 @@ fn message(alloc: Global, bytes: &[u8]) -> Result<Msg, ReadError>
 }
 
 /// The message that these bytes spell, all of them. `None` exactly where they spell none: the size
-/// field isn't their number or is above [`MSIZE`], the type isn't one of 9P2000's that are built here, a
-/// field passes the end, bytes are left, a qid's type or version is another, or too many names are walked.
+/// field isn't their number or is above [`MSIZE`], the type isn't one of 9P2000's that are built
+/// here, a field passes the end, bytes are left, a qid's type or version is another, or too many
+/// names are walked.
 pub fn decode(alloc: Global, bytes: &[u8]) -> Result<Option<Msg>, NoMemory>
     ensures found { IfOk result (IsFound bytes.now) }
     ensures message { IfOk result (λ found. IfSome found IsMessage) }

@@ -1,5 +1,5 @@
 // A message that is being written.
-ghost use Rattle.std.specs.Prelude.{◌≡◌, ◌+◌, ◌≤◌, ◌∷◌, ◌++◌, [], length, drop};
+ghost use Rattle.std.specs.Prelude.{◌≡◌, ◌+◌, ◌≤◌, ◌++◌, [], length, drop};
 ghost use Rattle.neph_p9msg.specs.Grammar.{number};
 
 use crate::msg::MSIZE;

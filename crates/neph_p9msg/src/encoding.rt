@@ -1,7 +1,7 @@
 // Messages to bytes.
 ghost use Rattle.std.specs.Prelude.{◌≡◌, ◌+◌, ◌≤◌, ◌∷◌, ◌++◌, [], IsOk, OnOk, OnErr, length, vec_len, vec_capacity};
 ghost use Rattle.std.specs.List.{flat_map, AllByRecursion};
-ghost use Rattle.neph_p9msg.specs.Grammar.{number, string, payload, qid, qid_type, body_bytes, bytes_of, IsString, IsBody, IsMessage, Fits};
+ghost use Rattle.neph_p9msg.specs.Grammar.{number, string, payload, series, qid, qid_type, body_bytes, bytes_of, IsString, IsBody, IsMessage, Fits};
 
 use crate::draft::Draft;
 use crate::msg::{MAXWELEM, MSIZE, Msg, MsgBody, QTDIR, QTFILE, Qid};
@@ -70,8 +70,10 @@ fn put_version(draft: &mut Draft, msize: u32, version: &[u8])
 fn put_attach(draft: &mut Draft, fid: u32, afid: u32, uname: &[u8], aname: &[u8])
     requires user { IsString uname.now }
     requires tree { IsString aname.now }
-    requires room { length draft.old + length (number 4 fid ++ number 4 afid ++ string uname.now ++ string aname.now) ≤ MSIZE }
-    ensures { draft.new ≡ draft.old ++ (number 4 fid ++ number 4 afid ++ string uname.now ++ string aname.now) }
+    requires room { length draft.old
+        + length (body_bytes (MsgBody.Tattach fid afid uname.now aname.now)) ≤ MSIZE }
+    ensures { draft.new
+        ≡ draft.old ++ body_bytes (MsgBody.Tattach fid afid uname.now aname.now) }
 {
     draft.put_u32(fid);
     draft.put_u32(afid);
@@ -82,8 +84,9 @@ fn put_attach(draft: &mut Draft, fid: u32, afid: u32, uname: &[u8], aname: &[u8]
 fn put_walk(draft: &mut Draft, fid: u32, newfid: u32, names: &[Name])
     requires most { length names.now ≤ MAXWELEM }
     requires each { AllByRecursion IsString names.now }
-    requires room { length draft.old + length (number 4 fid ++ number 4 newfid ++ number 2 (length names.now) ++ flat_map string names.now) ≤ MSIZE }
-    ensures { draft.new ≡ draft.old ++ (number 4 fid ++ number 4 newfid ++ number 2 (length names.now) ++ flat_map string names.now) }
+    requires room { length draft.old + length (body_bytes (MsgBody.Twalk fid newfid names.now))
+        ≤ MSIZE }
+    ensures { draft.new ≡ draft.old ++ body_bytes (MsgBody.Twalk fid newfid names.now) }
 {
     draft.put_u32(fid);
     draft.put_u32(newfid);
@@ -92,8 +95,9 @@ fn put_walk(draft: &mut Draft, fid: u32, newfid: u32, names: &[Name])
 }
 
 fn put_write(draft: &mut Draft, fid: u32, offset: u64, bytes: &[u8])
-    requires { length draft.old + length (number 4 fid ++ number 8 offset ++ payload bytes.now) ≤ MSIZE }
-    ensures { draft.new ≡ draft.old ++ (number 4 fid ++ number 8 offset ++ payload bytes.now) }
+    requires { length draft.old + length (body_bytes (MsgBody.Twrite fid offset bytes.now))
+        ≤ MSIZE }
+    ensures { draft.new ≡ draft.old ++ body_bytes (MsgBody.Twrite fid offset bytes.now) }
 {
     draft.put_u32(fid);
     draft.put_u64(offset);
@@ -127,8 +131,8 @@ fn put_opened(draft: &mut Draft, q: Qid, iounit: u32)
 
 fn put_walked(draft: &mut Draft, qids: &[Qid])
     requires count { Fits 2 (length qids.now) }
-    requires room { length draft.old + length (number 2 (length qids.now) ++ flat_map qid qids.now) ≤ MSIZE }
-    ensures { draft.new ≡ draft.old ++ (number 2 (length qids.now) ++ flat_map qid qids.now) }
+    requires room { length draft.old + length (series qid qids.now) ≤ MSIZE }
+    ensures { draft.new ≡ draft.old ++ series qid qids.now }
 {
     draft.put_u16(qids.len() as u16);
     put_qids(draft, qids);
@@ -178,8 +182,8 @@ fn draft_of(m: &Msg) -> Draft
     draft
 }
 
-/// Appends the bytes of a message. Where `into` has room for [`MSIZE`] bytes more it is never short of
-/// memory; after `NoMemory` it is as before.
+/// Appends the bytes of a message. Where `into` has room for [`MSIZE`] bytes more it is never short
+/// of memory; after `NoMemory` it is as before.
 pub fn encode(m: &Msg, into: &mut Vec<u8>) -> Result<(), NoMemory>
     requires { IsMessage m.now }
     ensures ok { OnOk result (into.new.items ≡ into.old.items ++ bytes_of m.now) }

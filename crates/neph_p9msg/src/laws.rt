@@ -10,10 +10,12 @@ pub fn one_message_for_bytes()
 
 /// A message has one spelling, and no spelling of a message begins another's.
 pub fn none_begins_another()
-    ensures { (a b x y : List ℕ) (m n : Msg) → Spells a m → Spells b n → a ++ x ≡ b ++ y → (a ≡ b) × (m ≡ n) }
+    ensures { (a b x y : List ℕ) (m n : Msg) → Spells a m → Spells b n
+        → a ++ x ≡ b ++ y → (a ≡ b) × (m ≡ n) }
 {}
 
 /// What is found in the bytes of a message is that message: what `encode` wrote `decode` reads.
 pub fn read_again()
-    ensures { (m : Msg) (found : Option Msg) → IsMessage m → IsFound (bytes_of m) found → found ≡ Some m }
+    ensures { (m : Msg) (found : Option Msg) → IsMessage m
+        → IsFound (bytes_of m) found → found ≡ Some m }
 {}

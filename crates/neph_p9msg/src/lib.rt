@@ -1,4 +1,5 @@
-//! Messages of 9P2000, both ways: what a message is, its one spelling, and a decoder and an encoder of it.
+//! Messages of 9P2000, both ways: what a message is, its one spelling, and a decoder and an encoder
+//! of it.
 #![tactic(auto)]
 
 mod decoding;

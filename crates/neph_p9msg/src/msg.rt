@@ -96,7 +96,8 @@ pub enum MsgBody {
         fid: u32,
         mode: u8,
     },
-    /// The node, and the most bytes that one read or write moves as a whole, 0 where that is not said.
+    /// The node, and the most bytes that one read or write moves as a whole, 0 where that is not
+    /// said.
     Ropen {
         qid: Qid,
         iounit: u32,

@@ -1,4 +1,5 @@
-// The messages of the manual byte for byte, what is no message, the largest ones, and a few thousand at random.
+// The messages of the manual byte for byte, what is no message, the largest ones, and a few
+// thousand at random.
 use crate::{decode, encode};
 use neph_base::NoMemory;
 use std::alloc::Global;

@@ -67,10 +67,10 @@ nothing_at (suc d) = refl
 
 -- ---- going through a list
 
-front_is : {A : Type 0} (xs : List A) (i : ℕ) (x : A) → i < length xs → x ≡ get_or xs i x → drop i xs ≡ x ∷ drop (suc i) xs
+pub front_is : {A : Type 0} (xs : List A) (i : ℕ) (x : A) → i < length xs → x ≡ get_or xs i x → drop i xs ≡ x ∷ drop (suc i) xs
 front_is {A} xs i x lt e = drop-cons xs i x lt ∙ ap (λ (y : A). y ∷ drop (suc i) xs) (sym e)
 
-at_end : {A : Type 0} (xs : List A) (i : ℕ) → length xs ≤ i → drop i xs ≡ []
+pub at_end : {A : Type 0} (xs : List A) (i : ℕ) → length xs ≤ i → drop i xs ≡ []
 at_end xs i le = nil_from_length (drop i xs) (omega (arith, length-drop i xs))
 
 pub named_here : (nodes : List Node) (among name : List ℕ) (i : ℕ) → i < length among → has_name (slice_get nodes (get_or among i 0)) name ≡ true

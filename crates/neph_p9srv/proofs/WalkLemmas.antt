@@ -1,7 +1,7 @@
 -- Trails, name by name, and what answers fit a message.
-use Rattle.std.proofs.Common.{◌≡◌, ℕ, suc, ◌+◌, ◌*◌, ◌<◌, ◌≤◌, ◌^◌, List, [], ◌∷◌, ◌++◌, length, get_or, drop, drop-cons, Option, Some, None, refl, sym, ap, ◌∙◌, arith}
+use Rattle.std.proofs.Common.{◌≡◌, ℕ, suc, ◌+◌, ◌*◌, ◌<◌, ◌≤◌, ◌^◌, List, [], ◌∷◌, ◌++◌, length, get_or, drop, Option, Some, None, refl, ap, ◌∙◌, arith}
 use Rattle.std.specs.List.{flat_map, AllByRecursion}
-use Rattle.std.proofs.lemmas.List.{length-append, nil_from_length, length-drop}
+use Rattle.std.proofs.lemmas.List.{length-append}
 use Rattle.std.proofs.lemmas.List.Concat.{flat_map-cons}
 use Rattle.neph_p9msg.specs.Grammar.{qid}
 use Rattle.neph_p9msg.specs.declared.msg.Qid.{Qid}
@@ -9,9 +9,7 @@ use Rattle.neph_p9msg.specs.declared.msg.MsgBody.TheVariants.{Rwalk}
 use Rattle.neph_p9srv.specs.declared.tree.Node.{Node}
 use Rattle.neph_p9srv.specs.State.{next, trail}
 use Rattle.neph_p9srv.specs.Rules.{IsReply}
-
-front_is : {A : Type 0} (xs : List A) (i : ℕ) (x : A) → i < length xs → x ≡ get_or xs i x → drop i xs ≡ x ∷ drop (suc i) xs
-front_is {A} xs i x lt e = drop-cons xs i x lt ∙ ap (λ (y : A). y ∷ drop (suc i) xs) (sym e)
+use Rattle.neph_p9srv.proofs.EntryLemmas.{front_is, at_end}
 
 pub trail_none : (nodes : List Node) (at : ℕ) (names : List (List ℕ)) (i : ℕ) (x : List ℕ) → i < length names → x ≡ get_or names i x → next nodes at x ≡ None
     → trail nodes at (drop i names) ≡ []
@@ -29,7 +27,7 @@ trail_some nodes at names i x n lt e found =
 
 pub trail_end : (nodes : List Node) (at : ℕ) (names : List (List ℕ)) (i : ℕ) → length names ≤ i → trail nodes at (drop i names) ≡ []
 unfolding trail
-trail_end nodes at names i le = ap (trail nodes at) (nil_from_length (drop i names) (omega (arith, length-drop i names)))
+trail_end nodes at names i le = ap (trail nodes at) (at_end names i le)
 
 pub all_push : {A : Type 0} (P : A → Type 0) (xs : List A) (x : A) → AllByRecursion P xs → P x → AllByRecursion P (xs ++ x ∷ [])
 all_push P [] x all here = (here, tt)

@@ -16,23 +16,26 @@ use Rattle.neph_p9srv.specs.Texts.{up}
 abbrev pub Fids : Type 0
 Fids = fin.FinMap nat_cmp Fid
 
--- the bytes of a file; nothing where a directory stands
+-- the bytes of a node, which only a file has
 abbrev pub body_in : Option Node → Option (List ℕ)
 body_in None = None
 body_in (Some node) = node.body
 
+-- the bytes of the file of this number; nothing where a directory stands
 abbrev pub body_of : List Node → ℕ → Option (List ℕ)
 body_of nodes n = body_in (slice_get nodes n)
 
--- the directory above a node, the root's being itself
+-- the number of a parent, or the node's own where it has none
 abbrev pub up_from : ℕ → Option ℕ → ℕ
 up_from n None = n
 up_from n (Some above) = above
 
+-- the same of a node that may be missing
 abbrev pub parent_in : ℕ → Option Node → ℕ
 parent_in n None = n
 parent_in n (Some node) = up_from n node.parent
 
+-- the directory above a node, the root's being itself
 abbrev pub parent_of : List Node → ℕ → ℕ
 parent_of nodes n = parent_in n (slice_get nodes n)
 
@@ -45,17 +48,20 @@ lies_in (Some above) dir = above == dir
 abbrev pub is_entry : Node → ℕ → List ℕ → Bool
 is_entry node dir name = lies_in node.parent dir && pointwise nat_eq node.name name
 
--- the number, counted from n on, of the node that the directory has under the name
+-- the number, counted from n on, of the first of these nodes that the directory has under the name
 abbrev pub child_from : ℕ → List Node → ℕ → List ℕ → Option ℕ
 child_from n [] dir name = None
-child_from n (node ∷ nodes) dir name = if is_entry node dir name then Some n else child_from (suc n) nodes dir name
+child_from n (node ∷ nodes) dir name =
+    if is_entry node dir name then Some n else child_from (suc n) nodes dir name
 
+-- the number of the node that the directory has under the name
 unfoldable pub child : List Node → ℕ → List ℕ → Option ℕ
 child nodes dir name = child_from 0 nodes dir name
 
 -- one step of a walk
 abbrev pub next : List Node → ℕ → List ℕ → Option ℕ
-next nodes at name = if pointwise nat_eq name up then Some (parent_of nodes at) else child nodes at name
+next nodes at name =
+    if pointwise nat_eq name up then Some (parent_of nodes at) else child nodes at name
 
 -- the nodes to which the names lead, one by one, until one leads nowhere
 unfoldable pub trail : List Node → ℕ → List (List ℕ) → List ℕ
@@ -74,14 +80,16 @@ end_of at (n ∷ ns) = end_of n ns
 abbrev pub is_dir : List Node → ℕ → Bool
 is_dir nodes n = not (is_some (body_of nodes n))
 
+-- a node is told apart by its number
 abbrev pub qid_of : List Node → ℕ → Qid
 qid_of nodes n = record { dir = is_dir nodes n; path = n }
 
--- the nodes with other bytes in one file
+-- the nodes with other bytes in this one of them, where it is one
 abbrev pub put_in : List Node → ℕ → List ℕ → Option Node → List Node
 put_in nodes n bytes None = nodes
 put_in nodes n bytes (Some node) = slice_set nodes n (record node { body = Some bytes })
 
+-- the nodes with other bytes in one file
 abbrev pub with_body : List Node → ℕ → List ℕ → List Node
 with_body nodes n bytes = put_in nodes n bytes (slice_get nodes n)
 
@@ -97,7 +105,7 @@ descend nodes at (name ∷ names) = elim (child nodes at name) [
 abbrev pub root : Node
 root = record { parent = None; name = []; body = None }
 
--- one more node, in the directory to which the names before its last lead
+-- the node of a line, in the directory to which the names before its last lead
 abbrev pub node_for : List Node → FileItem → Node
 node_for nodes item = record {
   parent = Some (descend nodes 0 (take (length item.path - 1) item.path));
@@ -105,6 +113,7 @@ node_for nodes item = record {
   body = item.body;
 }
 
+-- the nodes, and behind them the node of each line in turn
 abbrev pub with_items : List Node → List FileItem → List Node
 with_items nodes [] = nodes
 with_items nodes (item ∷ items) = with_items (nodes ++ node_for nodes item ∷ []) items
@@ -113,11 +122,17 @@ with_items nodes (item ∷ items) = with_items (nodes ++ node_for nodes item ∷
 unfoldable pub nodes_of : List FileItem → List Node
 nodes_of items = with_items (root ∷ []) items
 
+-- from one byte up to another
+abbrev pub IsBetween : ℕ → ℕ → ℕ → Type 0
+IsBetween low high b = (low ≤ b) × (b ≤ high)
+
 -- a letter, a digit, or one of '.', '_' and '-'
 abbrev pub IsNameByte : ℕ → Type 0
-IsNameByte b = ((97 ≤ b) × (b ≤ 122)) ⊎ (((65 ≤ b) × (b ≤ 90)) ⊎ (((48 ≤ b) × (b ≤ 57)) ⊎ ((b ≡ 46) ⊎ ((b ≡ 95) ⊎ (b ≡ 45)))))
+IsNameByte b =
+    IsBetween 97 122 b ⊎ (IsBetween 65 90 b ⊎ (IsBetween 48 57 b
+    ⊎ ((b ≡ 46) ⊎ ((b ≡ 95) ⊎ (b ≡ 45)))))
 
--- 1 to 32 of them, and neither '.' nor '..'
+-- 1 to 32 such bytes, and neither '.' nor '..'
 pub record IsName (name : List ℕ) : Type 0 where
   pub some : 0 < length name
   pub most : length name ≤ 32
@@ -125,7 +140,7 @@ pub record IsName (name : List ℕ) : Type 0 where
   pub apart : name ≢ codes "."
   pub down : name ≢ up
 
--- 1 to 8 names, and at most so many bytes
+-- 1 to 8 names, and at most 4,096 bytes
 pub record IsItem (item : FileItem) : Type 0 where
   pub some : 0 < length item.path
   pub most : length item.path ≤ 8
@@ -134,7 +149,8 @@ pub record IsItem (item : FileItem) : Type 0 where
 
 -- an item before place k is the directory of this path
 abbrev pub HasDirectory : List FileItem → ℕ → List (List ℕ) → Type 0
-HasDirectory items k path = (j : ℕ) × (j < k) × (slice_get items j ≡ Some (record { path = path; body = None }))
+HasDirectory items k path =
+    (j : ℕ) × (j < k) × (slice_get items j ≡ Some (record { path = path; body = None }))
 
 -- the lines of a tree: each has the root or a directory before it as its parent, and paths differ
 pub record AreItems (items : List FileItem) : Type 0 where
@@ -142,4 +158,5 @@ pub record AreItems (items : List FileItem) : Type 0 where
   pub each : All IsItem items
   pub parents : (k : ℕ) (item : FileItem) → slice_get items k ≡ Some item
       → (length item.path ≡ 1) ⊎ HasDirectory items k (take (length item.path - 1) item.path)
-  pub apart : (j k : ℕ) (a b : FileItem) → slice_get items j ≡ Some a → slice_get items k ≡ Some b → a.path ≡ b.path → j ≡ k
+  pub apart : (j k : ℕ) (a b : FileItem) → slice_get items j ≡ Some a → slice_get items k ≡ Some b
+      → a.path ≡ b.path → j ≡ k

@@ -2,7 +2,7 @@
 ghost use Rattle.std.specs.Prelude.{◌≡◌, ◌+◌, ◌-◌, ◌≤◌, ◌<◌, ◌^◌, ◌++◌, ◌==◌, if◌then◌else◌, IfOk, OnOk, replicate, length, map, take, drop, min, nat_lt};
 ghost use Rattle.std.specs.List.{AllByRecursion};
 ghost use Rattle.neph_p9msg.specs.Grammar.{IsBody};
-ghost use Rattle.neph_p9srv.specs.Rules.{Does, IsReply, attach_rule, clunk_rule, new_fid_fault, open_rule, open_to as opened_rule, read_rule, rule, splice, version_answer, version_rule, walk_rule, walked as walked_rule, write_rule};
+ghost use Rattle.neph_p9srv.specs.Rules.{Obeys, IsReply, attach_rule, clunk_rule, new_fid_fault, open_rule, open_to as opened_rule, read_rule, rule, splice, version_answer, version_rule, walk_rule, walked as walked_rule, write_rule};
 ghost use Rattle.neph_p9srv.specs.State.{end_of, qid_of, trail as spec_trail};
 
 use crate::error::P9Error;
@@ -51,9 +51,8 @@ fn version(
     msize: u32,
     version: &[u8],
 ) -> Result<MsgBody, NoMemory>
-    ensures does { Does (record { nodes = tree.now; fids = fids.old })
-        (record { nodes = tree.now; fids = fids.new }) result
-        (version_rule (record { nodes = tree.now; fids = fids.old }) msize version.now) }
+    ensures does { Obeys (λ own. version_rule own msize version.now)
+        tree.now fids.old tree.now fids.new result }
     ensures message { IfOk result IsReply }
 {
     let version = Bytes::of(Vec::from_slice(alloc, spoken_version(version))?);
@@ -72,9 +71,8 @@ fn attach(
     fid: u32,
     afid: u32,
 ) -> Result<MsgBody, NoMemory>
-    ensures does { Does (record { nodes = tree.now; fids = fids.old })
-        (record { nodes = tree.now; fids = fids.new }) result
-        (attach_rule (record { nodes = tree.now; fids = fids.old }) fid afid) }
+    ensures does { Obeys (λ own. attach_rule own fid afid)
+        tree.now fids.old tree.now fids.new result }
     ensures message { IfOk result IsReply }
 {
     if afid != NOFID {
@@ -94,7 +92,8 @@ fn attach(
 
 // The nodes to which the names lead, until one leads nowhere, and the last of them.
 fn trail(alloc: Global, tree: &Tree, at: u32, names: &[Name]) -> Result<(Vec<Qid>, u32), NoMemory>
-    ensures qids { IfOk result (λ r. r.0.items ≡ map (qid_of tree.now) (spec_trail tree.now at names.now)) }
+    ensures qids { IfOk result (λ r.
+        r.0.items ≡ map (qid_of tree.now) (spec_trail tree.now at names.now)) }
     ensures end { IfOk result (λ r. r.1 ≡ end_of at (spec_trail tree.now at names.now)) }
     ensures fits { IfOk result (λ r. AllByRecursion (λ q. q.path < 256 ^ 8) r.0.items) }
     ensures most { IfOk result (λ r. length r.0.items ≤ length names.now) }
@@ -123,9 +122,8 @@ fn walked(
     names: &[Name],
 ) -> Result<MsgBody, NoMemory>
     requires { length names.now ≤ MAXWELEM }
-    ensures does { Does (record { nodes = tree.now; fids = fids.old })
-        (record { nodes = tree.now; fids = fids.new }) result
-        (walked_rule (record { nodes = tree.now; fids = fids.old }) newfid at names.now) }
+    ensures does { Obeys (λ own. walked_rule own newfid at names.now)
+        tree.now fids.old tree.now fids.new result }
     ensures message { IfOk result IsReply }
 {
     let (qids, last) = trail(alloc, tree, at, names)?;
@@ -167,9 +165,8 @@ fn walk(
     names: &[Name],
 ) -> Result<MsgBody, NoMemory>
     requires { length names.now ≤ MAXWELEM }
-    ensures does { Does (record { nodes = tree.now; fids = fids.old })
-        (record { nodes = tree.now; fids = fids.new }) result
-        (walk_rule (record { nodes = tree.now; fids = fids.old }) fid newfid names.now) }
+    ensures does { Obeys (λ own. walk_rule own fid newfid names.now)
+        tree.now fids.old tree.now fids.new result }
     ensures message { IfOk result IsReply }
 {
     let Some(from) = fids.get(fid) else {
@@ -192,9 +189,8 @@ fn opened(
     fid: u32,
     to: Fid,
 ) -> Result<MsgBody, NoMemory>
-    ensures does { Does (record { nodes = tree.now; fids = fids.old })
-        (record { nodes = tree.now; fids = fids.new }) result
-        (opened_rule (record { nodes = tree.now; fids = fids.old }) fid to) }
+    ensures does { Obeys (λ own. opened_rule own fid to)
+        tree.now fids.old tree.now fids.new result }
     ensures message { IfOk result IsReply }
 {
     let qid = tree.qid(to.node);
@@ -213,9 +209,8 @@ fn open(
     fid: u32,
     mode: u8,
 ) -> Result<MsgBody, NoMemory>
-    ensures does { Does (record { nodes = tree.now; fids = fids.old })
-        (record { nodes = tree.now; fids = fids.new }) result
-        (open_rule (record { nodes = tree.now; fids = fids.old }) fid mode) }
+    ensures does { Obeys (λ own. open_rule own fid mode)
+        tree.now fids.old tree.now fids.new result }
     ensures message { IfOk result IsReply }
 {
     let Some(from) = fids.get(fid) else {
@@ -260,9 +255,8 @@ fn read(
     offset: u64,
     count: u32,
 ) -> Result<MsgBody, NoMemory>
-    ensures does { Does (record { nodes = tree.now; fids = fids.now })
-        (record { nodes = tree.now; fids = fids.now }) result
-        (read_rule (record { nodes = tree.now; fids = fids.now }) fid offset count) }
+    ensures does { Obeys (λ own. read_rule own fid offset count)
+        tree.now fids.now tree.now fids.now result }
     ensures message { IfOk result IsReply }
 {
     let Some(from) = fids.get(fid) else {
@@ -289,7 +283,8 @@ fn is_too_large(offset: u64, len: usize) -> bool
 
 // Adds zeros up to a length.
 fn pad(bytes: &mut Vec<u8>, to: usize) -> Result<(), NoMemory>
-    ensures { OnOk result (bytes.new.items ≡ bytes.old.items ++ replicate (to - length bytes.old.items) 0) }
+    ensures { OnOk result (bytes.new.items
+        ≡ bytes.old.items ++ replicate (to - length bytes.old.items) 0) }
 {
     let missing = to.saturating_sub(bytes.len());
     for _ in 0..missing {
@@ -322,9 +317,8 @@ fn write(
     offset: u64,
     bytes: &[u8],
 ) -> Result<MsgBody, NoMemory>
-    ensures does { Does (record { nodes = tree.old; fids = fids.now })
-        (record { nodes = tree.new; fids = fids.now }) result
-        (write_rule (record { nodes = tree.old; fids = fids.now }) fid offset bytes.now) }
+    ensures does { Obeys (λ own. write_rule own fid offset bytes.now)
+        tree.old fids.now tree.new fids.now result }
     ensures message { IfOk result IsReply }
 {
     let Some(from) = fids.get(fid) else {
@@ -348,9 +342,8 @@ fn write(
 
 #[tactic(auto, unfolding(crate::specs::Rules::clunk_rule))]
 fn clunk(alloc: Global, tree: &Tree, fids: &mut FidMap, fid: u32) -> Result<MsgBody, NoMemory>
-    ensures does { Does (record { nodes = tree.now; fids = fids.old })
-        (record { nodes = tree.now; fids = fids.new }) result
-        (clunk_rule (record { nodes = tree.now; fids = fids.old }) fid) }
+    ensures does { Obeys (λ own. clunk_rule own fid)
+        tree.now fids.old tree.now fids.new result }
     ensures message { IfOk result IsReply }
 {
     if fids.get(fid).is_none() {
@@ -369,9 +362,8 @@ pub fn handle(
     body: &MsgBody,
 ) -> Result<MsgBody, NoMemory>
     requires { IsBody body.now }
-    ensures does { Does (record { nodes = tree.old; fids = fids.old })
-        (record { nodes = tree.new; fids = fids.new }) result
-        (rule (record { nodes = tree.old; fids = fids.old }) body.now) }
+    ensures does { Obeys (λ own. rule own body.now)
+        tree.old fids.old tree.new fids.new result }
     ensures message { IfOk result IsReply }
 {
     match body {

@@ -24,8 +24,8 @@ pub struct FileItem {
     pub body: Option<Bytes>,
 }
 
-/// A tree of files that is served to the domains, and the fids of each. Contracts see the nodes, the root
-/// first, and a finite map from fids for each domain.
+/// A tree of files that is served to the domains, and the fids of each. Contracts see the nodes,
+/// the root first, and a finite map from fids for each domain.
 #[derive(Drop)]
 pub struct Served {
     tree: Tree,
@@ -42,7 +42,8 @@ impl Model for Served {
 
     ghost Value = { Server };
 
-    ghost coded = { coded_via (coded× (Prim.hlevel codes) (coded_list (fin.code coded_ℕ (Prim.hlevel codes))))
+    ghost coded = { coded_via
+        (coded× (Prim.hlevel codes) (coded_list (fin.code coded_ℕ (Prim.hlevel codes))))
         (λ s. (s.nodes, s.fids)) (λ s t e i. record { nodes = (e i).0; fids = (e i).1 }) };
 
     ghost view = { λ s. record { nodes = s.tree; fids = s.fids.items } };
@@ -63,7 +64,8 @@ impl Served {
     /// Serves these nodes. No domain holds a fid.
     pub fn new(alloc: Global, nodes: &[FileItem]) -> Result<Served, NoMemory>
         requires { AreItems nodes.now }
-        ensures { IfOk result (λ s. s ≡ record { nodes = nodes_of nodes.now; fids = replicate IDS fin.empty }) }
+        ensures { IfOk result (λ s.
+            s ≡ record { nodes = nodes_of nodes.now; fids = replicate IDS fin.empty }) }
     {
         let tree = Tree::new(alloc, nodes)?;
         let mut fids = Vec::new(alloc);
@@ -90,7 +92,8 @@ impl Served {
 
     /// Gives the child a copy of each fid of its parent, in place of what it held.
     pub fn clone_fids(&mut self, parent: DomId, child: DomId) -> Result<(), NoMemory>
-        ensures ok { OnOk result (self.new ≡ with_fids_at self.old child (fids_at self.old parent)) }
+        ensures ok { OnOk result
+            (self.new ≡ with_fids_at self.old child (fids_at self.old parent)) }
         ensures err { OnErr result (self.new ≡ self.old) }
     {
         let copy = self.fids[parent.get() as usize].try_clone()?;

@@ -3,7 +3,7 @@ ghost use Rattle.std.specs.Prelude.{◌≡◌, ◌<◌, ◌≤◌, ◌^◌, ◌�
 ghost use Rattle.neph_p9srv.specs.Entries.{AreEntries, first_named, has_name as spec_has_name};
 ghost use Rattle.std.specs.List.{All};
 ghost use Rattle.std.specs.Option.{option_copied};
-ghost use Rattle.neph_p9srv.specs.State.{body_of, child, descend as spec_descend, next as spec_next, node_for, nodes_of, parent_of, qid_of, with_body, with_items};
+ghost use Rattle.neph_p9srv.specs.State.{body_of, child, descend as spec_descend, next as spec_next, node_for, nodes_of, parent_of, qid_of, with_body};
 
 use crate::served::FileItem;
 use neph_base::{Bytes, Name, NoMemory, TryClone};
@@ -112,8 +112,10 @@ fn add(
     requires root { 0 < length nodes.old.items }
     requires few { length nodes.old.items < 2 ^ 31 }
     requires path { 0 < length item.now.path }
-    ensures nodes { OnOk result (nodes.new.items ≡ nodes.old.items ++ node_for nodes.old.items item.now ∷ []) }
-    ensures entries { OnOk result (AreEntries nodes.new.items (map (λ v. v.items) entries.new.items)) }
+    ensures nodes { OnOk result (nodes.new.items
+        ≡ nodes.old.items ++ node_for nodes.old.items item.now ∷ []) }
+    ensures entries { OnOk result
+        (AreEntries nodes.new.items (map (λ v. v.items) entries.new.items)) }
 {
     let path = item.path.items();
     let last = path.len() - 1;

@@ -16,10 +16,11 @@ span xs at n = take n (drop at xs)
 unfoldable pub with_bytes : List ℕ → ℕ → List ℕ → List ℕ
 with_bytes xs at ys = take at xs ++ (ys ++ drop (at + length ys) xs)
 
--- the 16-bit and the 32-bit number at a place, little-endian
+-- the 16-bit number at a place, little-endian
 unfoldable pub u16_at : List ℕ → ℕ → ℕ
 u16_at xs at = little_number 2 (span xs at 2)
 
+-- the 32-bit number at a place, little-endian
 unfoldable pub u32_at : List ℕ → ℕ → ℕ
 u32_at xs at = little_number 4 (span xs at 4)
 

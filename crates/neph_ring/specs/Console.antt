@@ -5,9 +5,11 @@ use Rattle.neph_ring.specs.declared.layout.TheConstants.{XENCONS_OUT, XENCONS_OU
 use Rattle.neph_ring.specs.Bytes.{u32_at, with_u32}
 use Rattle.neph_ring.specs.Indexes.{count_between, index_after}
 
+-- the consumer's index
 abbrev pub out_cons : List ℕ → ℕ
 out_cons page = u32_at page XENCONS_OUT_CONS
 
+-- the producer's index
 abbrev pub out_prod : List ℕ → ℕ
 out_prod page = u32_at page XENCONS_OUT_PROD
 
@@ -19,10 +21,11 @@ out_place i = XENCONS_OUT + i % XENCONS_OUT_SIZE
 unfoldable pub ring_bytes : List ℕ → ℕ → ℕ → List ℕ
 ring_bytes page i n = map (λ k. slice_index page (out_place (i + k))) (range_with_len 0 n)
 
--- how many bytes wait, and which
+-- how many bytes wait
 abbrev pub out_count : List ℕ → ℕ
 out_count page = count_between (out_cons page) (out_prod page)
 
+-- the bytes that wait, oldest first
 abbrev pub out_queue : List ℕ → List ℕ
 out_queue page = ring_bytes page (out_cons page) (out_count page)
 
@@ -38,7 +41,8 @@ with_ring page i (b ∷ bs) = with_ring (slice_set page (out_place i) b) (i + 1)
 -- the page with these bytes behind those that wait
 abbrev pub with_output : List ℕ → List ℕ → List ℕ
 with_output page bytes =
-    with_u32 (with_ring page (out_prod page) bytes) XENCONS_OUT_PROD (index_after (out_prod page) (length bytes))
+    let filled = with_ring page (out_prod page) bytes in
+    with_u32 filled XENCONS_OUT_PROD (index_after (out_prod page) (length bytes))
 
 -- the page with no byte that waits; only the consumer's index moves
 abbrev pub without_output : List ℕ → List ℕ

@@ -9,33 +9,38 @@ use Rattle.neph_ring.specs.declared.network.NetPart.TheVariants.{Transmit, Recei
 use Rattle.neph_ring.specs.Bytes.{span, with_bytes, u16_at, u32_at, with_u32}
 use Rattle.neph_ring.specs.Indexes.{count_between, index_after}
 
--- where the slots and the indexes of a part stand
+-- where the slots of a part stand
 abbrev pub slots_at : NetPart → ℕ
 slots_at Transmit = NET_TX
 slots_at Receive = NET_RX
 
+-- where the producer's index of a part stands
 abbrev pub prod_at : NetPart → ℕ
 prod_at Transmit = NET_TX_PROD
 prod_at Receive = NET_RX_PROD
 
+-- where the consumer's index of a part stands
 abbrev pub cons_at : NetPart → ℕ
 cons_at Transmit = NET_TX_CONS
 cons_at Receive = NET_RX_CONS
 
--- the indexes of a part, and how many packets wait
+-- the producer's index of a part
 abbrev pub net_prod : NetPart → List ℕ → ℕ
 net_prod part page = u32_at page (prod_at part)
 
+-- the consumer's index of a part
 abbrev pub net_cons : NetPart → List ℕ → ℕ
 net_cons part page = u32_at page (cons_at part)
 
+-- how many packets wait in a part
 abbrev pub net_count : NetPart → List ℕ → ℕ
 net_count part page = count_between (net_cons part page) (net_prod part page)
 
--- the slot of an index
+-- where the slot of an index stands
 abbrev pub slot_place : NetPart → ℕ → ℕ
 slot_place part i = slots_at part + NET_SLOT_BYTES * (i % NET_SLOTS)
 
+-- the bytes of the slot of an index
 abbrev pub slot_at : NetPart → List ℕ → ℕ → List ℕ
 slot_at part page i = span page (slot_place part i) NET_SLOT_BYTES
 
@@ -49,7 +54,9 @@ packet_in slot = record {
 
 -- a slot has a packet: its family has one byte, and one to 64 bytes are carried
 unfoldable pub IsSlot : List ℕ → Type 0
-IsSlot slot = (u16_at slot SLOT_FAMILY < 256) × (0 < u16_at slot SLOT_LENGTH) × (u16_at slot SLOT_LENGTH ≤ SLOT_BODY_BYTES)
+IsSlot slot =
+    (u16_at slot SLOT_FAMILY < 256) × (0 < u16_at slot SLOT_LENGTH)
+    × (u16_at slot SLOT_LENGTH ≤ SLOT_BODY_BYTES)
 
 -- what a packet can carry
 pub record IsPacket (p : Packet) : Type 0 where
@@ -58,35 +65,48 @@ pub record IsPacket (p : Packet) : Type 0 where
   pub some : 0 < length p.body
   pub most : length p.body ≤ SLOT_BODY_BYTES
 
+-- the slot of the packet before which k others wait in a part
+abbrev pub waiting_slot : NetPart → List ℕ → ℕ → List ℕ
+waiting_slot part page k = slot_at part page (net_cons part page + k)
+
 -- the packets that wait in a part, oldest first
 unfoldable pub packets : NetPart → List ℕ → List Packet
-packets part page = map (λ k. packet_in (slot_at part page (net_cons part page + k))) (range_with_len 0 (net_count part page))
+packets part page =
+    map (λ k. packet_in (waiting_slot part page k)) (range_with_len 0 (net_count part page))
 
 -- a part has at most 16 packets, and each waiting slot has one
 pub record IsPart (part : NetPart) (page : List ℕ) : Type 0 where
   pub count : net_count part page ≤ NET_SLOTS
-  pub slots : (k : ℕ) → k < net_count part page → IsSlot (slot_at part page (net_cons part page + k))
+  pub slots : (k : ℕ) → k < net_count part page → IsSlot (waiting_slot part page k)
 
+-- both parts are queues of packets
 pub record IsNetwork (page : List ℕ) : Type 0 where
   pub transmit : IsPart Transmit page
   pub receive : IsPart Receive page
 
--- the first eight bytes of a slot, and the bytes of a slot with a packet; unused bytes are zero
+-- the first eight bytes of a slot; the last two are unused
 unfoldable pub head_of : ℕ → ℕ → ℕ → List ℕ
-head_of family port len = little_bytes 2 family ++ (little_bytes 2 port ++ (little_bytes 2 len ++ little_bytes 2 0))
+head_of family port len =
+    little_bytes 2 family ++ (little_bytes 2 port ++ (little_bytes 2 len ++ little_bytes 2 0))
 
+-- the bytes of a slot with a packet; those behind the packet's bytes are zero
 unfoldable pub slot_of : Packet → List ℕ
-slot_of p = head_of p.family p.port (length p.body) ++ (p.body ++ replicate (SLOT_BODY_BYTES - length p.body) 0)
+slot_of p =
+    head_of p.family p.port (length p.body)
+    ++ (p.body ++ replicate (SLOT_BODY_BYTES - length p.body) 0)
 
 -- the page with a packet behind those that wait in a part
 abbrev pub with_packet : NetPart → List ℕ → Packet → List ℕ
 with_packet part page p =
-    with_u32 (with_bytes page (slot_place part (net_prod part page)) (slot_of p)) (prod_at part) (index_after (net_prod part page) 1)
+    let filled = with_bytes page (slot_place part (net_prod part page)) (slot_of p) in
+    with_u32 filled (prod_at part) (index_after (net_prod part page) 1)
 
--- the page with the oldest packet of a part taken; its slot stays, and only the consumer's index moves
+-- the page with the oldest packet of a part taken; its slot stays, and only the consumer's index
+-- moves
 abbrev pub without_first : NetPart → List ℕ → List ℕ
 without_first part page = with_u32 page (cons_at part) (index_after (net_cons part page) 1)
 
+-- the other part
 abbrev pub other_part : NetPart → NetPart
 other_part Transmit = Receive
 other_part Receive = Transmit

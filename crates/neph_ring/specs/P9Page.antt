@@ -12,13 +12,15 @@ state_number Idle = 0
 state_number Asked = 1
 state_number Answered = 2
 
--- the state's number in the page, the length and the bytes of the message
+-- the state's number in the page
 abbrev pub p9_number : List ℕ → ℕ
 p9_number page = u32_at page P9_STATE
 
+-- the length of the message
 abbrev pub p9_length : List ℕ → ℕ
 p9_length page = u32_at page P9_LENGTH
 
+-- the bytes of the message
 abbrev pub p9_message : List ℕ → List ℕ
 p9_message page = span page P9_MESSAGE (p9_length page)
 
@@ -39,4 +41,5 @@ pub record Holds (page : List ℕ) (s : P9State) (bytes : List ℕ) : Type 0 whe
 -- the page with a state and a message; the bytes behind the message stay
 abbrev pub with_message : List ℕ → P9State → List ℕ → List ℕ
 with_message page state bytes =
-    with_bytes page P9_STATE (little_bytes 4 (state_number state) ++ (little_bytes 4 (length bytes) ++ bytes))
+    let counted = little_bytes 4 (length bytes) ++ bytes in
+    with_bytes page P9_STATE (little_bytes 4 (state_number state) ++ counted)

@@ -22,9 +22,12 @@ pub record IsQuiet (page : List ℕ) : Type 0 where
 abbrev pub ZeroPageIsQuiet : Type 0
 ZeroPageIsQuiet = IsQuiet (replicate 4096 0)
 
--- the network page of a child: the receive slots and indexes are the parent's, the transmit slots and indexes are zero
+-- the network page of a child: the receive slots and indexes are the parent's, the transmit slots
+-- and indexes are zero
 abbrev pub network_page_of_child : List ℕ → List ℕ
-network_page_of_child page = with_bytes (with_bytes page NET_TX (replicate (NET_SLOTS * NET_SLOT_BYTES) 0)) NET_TX_PROD (replicate 8 0)
+network_page_of_child page =
+    let emptied = with_bytes page NET_TX (replicate (NET_SLOTS * NET_SLOT_BYTES) 0) in
+    with_bytes emptied NET_TX_PROD (replicate 8 0)
 
 -- a child has the packets that its parent had received and not yet taken, and has sent none
 pub record ReceivesAsParent (page child : List ℕ) : Type 0 where
@@ -32,5 +35,8 @@ pub record ReceivesAsParent (page child : List ℕ) : Type 0 where
   pub sent : packets Transmit child ≡ []
   pub received : packets Receive child ≡ packets Receive page
 
+-- the network page of a child is as a child's is to be
 abbrev pub ChildReceivesAsParent : Type 0
-ChildReceivesAsParent = (page : List ℕ) → length page ≡ 4096 → IsNetwork page → ReceivesAsParent page (network_page_of_child page)
+ChildReceivesAsParent =
+    (page : List ℕ) → length page ≡ 4096 → IsNetwork page
+    → ReceivesAsParent page (network_page_of_child page)

@@ -1,5 +1,5 @@
 // The console's output: a ring of bytes that the guest fills and the backend drains.
-ghost use Rattle.std.specs.Prelude.{◌≡◌, ◌↔◌, ◌+◌, ◌≤◌, ◌++◌, [], length, IsTrue, IfOk, OnOk, OnErr};
+ghost use Rattle.std.specs.Prelude.{◌≡◌, ◌↔◌, ◌+◌, ◌≤◌, ◌++◌, [], length, vec_len, vec_capacity, IsTrue, IsOk, IfOk, OnOk, OnErr};
 ghost use Rattle.std.specs.Bool.{OnTrue, OnFalse};
 ghost use Rattle.neph_ring.specs.Bytes.{bytes_of_words};
 ghost use Rattle.neph_ring.specs.Console.{IsConsole, out_count, out_queue, ring_bytes, with_output, with_ring, without_output};
@@ -12,7 +12,7 @@ use neph_base::{NoMemory, Piece};
 
 // Reads the ring's bytes from an index on, round the ring's end.
 fn read_ring<W: Words>(page: &mut W, index: u32, into: &mut [u8])
-    requires { length into.old ≤ 2048 }
+    requires { length into.old ≤ XENCONS_OUT_SIZE }
     ensures bytes { into.new
         ≡ ring_bytes (bytes_of_words (W.words page.old)) index (length into.old) }
     ensures words { W.words page.new ≡ W.words page.old }
@@ -27,7 +27,7 @@ fn read_ring<W: Words>(page: &mut W, index: u32, into: &mut [u8])
 
 // Writes the ring's bytes from an index on, round the ring's end.
 fn write_ring<W: Words>(page: &mut W, index: u32, from: &[u8])
-    requires { length from.now ≤ 2048 }
+    requires { length from.now ≤ XENCONS_OUT_SIZE }
     ensures bytes { bytes_of_words (W.words page.new)
         ≡ with_ring (bytes_of_words (W.words page.old)) index from.now }
     ensures rest { W.keeps_rest page.old page.new }
@@ -42,7 +42,8 @@ fn write_ring<W: Words>(page: &mut W, index: u32, from: &[u8])
 pub fn put_out<W: Words>(page: &mut W, bytes: &Piece) -> bool
     requires { IsConsole (bytes_of_words (W.words page.old)) }
     ensures exactly { IsTrue result
-        ↔ (out_count (bytes_of_words (W.words page.old)) + length bytes.now ≤ 2048) }
+        ↔ (out_count (bytes_of_words (W.words page.old)) + length bytes.now
+        ≤ XENCONS_OUT_SIZE) }
     ensures put { OnTrue result (bytes_of_words (W.words page.new)
         ≡ with_output (bytes_of_words (W.words page.old)) bytes.now) }
     ensures queue { OnTrue result (out_queue (bytes_of_words (W.words page.new))
@@ -64,7 +65,8 @@ pub fn put_out<W: Words>(page: &mut W, bytes: &Piece) -> bool
 }
 
 /// Appends the bytes that wait, and tells how many there were. None waits then. Where memory is
-/// out, none is taken. The ring's bytes stay in their places.
+/// out, none is taken; it isn't where `into` has room for them. The ring's bytes stay in their
+/// places.
 pub fn drain_out<W: Words>(page: &mut W, into: &mut Vec<u8>) -> Result<u32, NoMemory>
     requires { IsConsole (bytes_of_words (W.words page.old)) }
     ensures count { IfOk result (λ n. n ≡ length (out_queue (bytes_of_words (W.words page.old)))) }
@@ -75,6 +77,8 @@ pub fn drain_out<W: Words>(page: &mut W, into: &mut Vec<u8>) -> Result<u32, NoMe
     ensures empty { OnOk result (out_queue (bytes_of_words (W.words page.new)) ≡ []) }
     ensures err { OnErr result (into.new.items ≡ into.old.items) }
     ensures err_page { OnErr result (W.words page.new ≡ W.words page.old) }
+    ensures room { vec_len into.old + length (out_queue (bytes_of_words (W.words page.old)))
+        ≤ vec_capacity into.old → IsOk result }
     ensures kept { IsConsole (bytes_of_words (W.words page.new)) }
     ensures rest { W.keeps_rest page.old page.new }
 {

@@ -1,5 +1,5 @@
 // The network page: packets that are sent, and packets that are received.
-ghost use Rattle.std.specs.Prelude.{◌≡◌, ◌↔◌, ◌+◌, ◌<◌, ◌≤◌, ◌++◌, [], ◌∷◌, length, IsTrue, IsSome, IsNone, IfSome, OnSome, IfNone};
+ghost use Rattle.std.specs.Prelude.{◌≡◌, ◌↔◌, ◌+◌, ◌<◌, ◌≤◌, length, IsTrue, IsSome, IsNone, IfSome, IfNone};
 ghost use Rattle.std.specs.Bool.{OnTrue, OnFalse};
 ghost use Rattle.neph_ring.specs.Bytes.{bytes_of_words, u16_at, with_bytes};
 ghost use Rattle.neph_ring.specs.Network.{IsNetwork, IsPacket, IsSlot, PutsPacket, TakesPacket, cons_at, head_of, net_count, packet_in, prod_at, slot_of, slot_place};
@@ -49,7 +49,7 @@ impl NetPart {
     // Where the slot of an index stands.
     fn slot(self, index: u32) -> usize
         ensures is { result ≡ slot_place self index }
-        ensures fits { result + 72 ≤ 2304 }
+        ensures fits { result + NET_SLOT_BYTES ≤ NET_TX_PROD }
     {
         let slots = match self {
             NetPart::Transmit => NET_TX,
@@ -71,7 +71,7 @@ fn slot_head(family: u8, port: u16, len: u16) -> [u8; SLOT_BODY]
 
 // Writes a packet into the slot that stands at a place.
 fn put_slot<W: Words>(page: &mut W, at: usize, p: &Packet)
-    requires { at + 72 ≤ 2304 }
+    requires { at + NET_SLOT_BYTES ≤ NET_TX_PROD }
     ensures slot { bytes_of_words (W.words page.new)
         ≡ with_bytes (bytes_of_words (W.words page.old)) at (slot_of p.now) }
     ensures packet { IsPacket p.now }
@@ -95,7 +95,7 @@ fn slot_number(slot: &[u8], at: usize) -> u16
 
 // The packet in a slot, none exactly where there is none.
 fn packet(slot: &[u8]) -> Option<Packet>
-    requires { length slot.now ≡ 72 }
+    requires { length slot.now ≡ NET_SLOT_BYTES }
     ensures exactly { IsSome result ↔ IsSlot slot.now }
     ensures packet { IfSome result (λ p. p ≡ packet_in slot.now) }
 {
@@ -116,7 +116,8 @@ fn packet(slot: &[u8]) -> Option<Packet>
 // Puts a packet behind those that wait in a part.
 fn put<W: Words>(page: &mut W, part: NetPart, p: &Packet) -> bool
     requires { IsNetwork (bytes_of_words (W.words page.old)) }
-    ensures exactly { IsTrue result ↔ (net_count part (bytes_of_words (W.words page.old)) < 16) }
+    ensures exactly { IsTrue result ↔ (net_count part (bytes_of_words (W.words page.old))
+        < NET_SLOTS) }
     ensures put { OnTrue result (PutsPacket part (bytes_of_words (W.words page.old)) p.now
         (bytes_of_words (W.words page.new))) }
     ensures full { OnFalse result (W.words page.new ≡ W.words page.old) }
@@ -159,7 +160,7 @@ fn take<W: Words>(page: &mut W, part: NetPart) -> Option<Packet>
 pub fn tx_put<W: Words>(page: &mut W, p: &Packet) -> bool
     requires { IsNetwork (bytes_of_words (W.words page.old)) }
     ensures exactly { IsTrue result
-        ↔ (net_count NetPart.Transmit (bytes_of_words (W.words page.old)) < 16) }
+        ↔ (net_count NetPart.Transmit (bytes_of_words (W.words page.old)) < NET_SLOTS) }
     ensures put { OnTrue result (PutsPacket NetPart.Transmit
         (bytes_of_words (W.words page.old)) p.now (bytes_of_words (W.words page.new))) }
     ensures full { OnFalse result (W.words page.new ≡ W.words page.old) }
@@ -173,7 +174,7 @@ pub fn tx_put<W: Words>(page: &mut W, p: &Packet) -> bool
 pub fn rx_put<W: Words>(page: &mut W, p: &Packet) -> bool
     requires { IsNetwork (bytes_of_words (W.words page.old)) }
     ensures exactly { IsTrue result
-        ↔ (net_count NetPart.Receive (bytes_of_words (W.words page.old)) < 16) }
+        ↔ (net_count NetPart.Receive (bytes_of_words (W.words page.old)) < NET_SLOTS) }
     ensures put { OnTrue result (PutsPacket NetPart.Receive
         (bytes_of_words (W.words page.old)) p.now (bytes_of_words (W.words page.new))) }
     ensures full { OnFalse result (W.words page.new ≡ W.words page.old) }

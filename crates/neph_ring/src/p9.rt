@@ -1,11 +1,11 @@
 // The 9P page: one message at most.
-ghost use Rattle.std.specs.Prelude.{◌≡◌, ◌↔◌, ◌≤◌, length, IsTrue, IfOk, OnOk, OnErr, [], ◌∷◌, ◌++◌};
+ghost use Rattle.std.specs.Prelude.{◌≡◌, ◌↔◌, ◌≤◌, length, IsTrue, IfOk, OnOk, OnErr, []};
 ghost use Rattle.std.specs.Bool.{OnTrue, OnFalse};
 ghost use Rattle.neph_ring.specs.Bytes.{bytes_of_words};
-ghost use Rattle.neph_ring.specs.P9Page.{IsP9Page, IsIn, Holds, state_number, p9_number, p9_message, with_message};
+ghost use Rattle.neph_ring.specs.P9Page.{IsP9Page, IsIn, Holds, state_number, p9_message, with_message};
 
 use crate::bytes::{read_bytes, write_bytes};
-use crate::layout::{P9_LENGTH, P9_MESSAGE, P9_STATE};
+use crate::layout::{P9_LENGTH, P9_MESSAGE, P9_MOST, P9_STATE};
 use crate::numbers::{read_u32, write_u32};
 use crate::words::Words;
 use neph_base::{List, Message, NoMemory};
@@ -37,7 +37,7 @@ impl P9State {
 
 // Puts a message, its length and a state.
 fn put_message<W: Words>(page: &mut W, state: P9State, bytes: &[u8])
-    requires { length bytes.now ≤ 1024 }
+    requires { length bytes.now ≤ P9_MOST }
     ensures page { bytes_of_words (W.words page.new)
         ≡ with_message (bytes_of_words (W.words page.old)) state bytes.now }
     ensures holds { Holds (bytes_of_words (W.words page.new)) state bytes.now }
@@ -80,7 +80,7 @@ fn message<W: Words>(alloc: Global, page: &mut W) -> Result<Message, NoMemory>
 /// Puts a request of at most 1,024 bytes. False exactly where the page isn't idle.
 pub fn p9_put<W: Words>(page: &mut W, bytes: &[u8]) -> bool
     requires page { IsP9Page (bytes_of_words (W.words page.old)) }
-    requires size { length bytes.now ≤ 1024 }
+    requires size { length bytes.now ≤ P9_MOST }
     ensures exactly { IsTrue result ↔ IsIn (bytes_of_words (W.words page.old)) P9State.Idle }
     ensures put { OnTrue result (bytes_of_words (W.words page.new)
         ≡ with_message (bytes_of_words (W.words page.old)) P9State.Asked bytes.now) }
@@ -130,7 +130,7 @@ pub fn p9_ask<W: Words>(alloc: Global, page: &mut W) -> Result<Message, NoMemory
 pub fn p9_reply<W: Words>(page: &mut W, bytes: &[u8])
     requires page { IsP9Page (bytes_of_words (W.words page.old)) }
     requires asked { IsIn (bytes_of_words (W.words page.old)) P9State.Asked }
-    requires size { length bytes.now ≤ 1024 }
+    requires size { length bytes.now ≤ P9_MOST }
     ensures put { bytes_of_words (W.words page.new)
         ≡ with_message (bytes_of_words (W.words page.old)) P9State.Answered bytes.now }
     ensures answered { Holds (bytes_of_words (W.words page.new)) P9State.Answered bytes.now }

@@ -1,24 +1,24 @@
 -- Nodes that are taken away one after the other.
-use Rattle.std.proofs.Common.{◌≡◌, ◌≢◌, ◌⊎◌, inl, inr, ℕ, ◌+◌, Bool, true, false, cond, ◌&&◌, ◌||◌, List, [], ◌∷◌, ◌++◌, length, Option, Some, None, is_some, refl, sym, ap, ◌∙◌, subst, Vec, arith, length-append, Less}
+use Rattle.std.proofs.Common.{◌≡◌, ◌≢◌, inl, inr, ℕ, ◌+◌, Bool, true, false, cond, ◌||◌, List, [], ◌∷◌, ◌++◌, length, Option, Some, None, is_some, refl, sym, ap, ◌∙◌, subst, Vec, arith, length-append, Less}
 use Rattle.std.specs.Prelude.{not, nat_eq}
-use Rattle.std.specs.Ordering.{is_eq, is_le, eq_by_cmp}
+use Rattle.std.specs.Ordering.{is_eq}
 use Rattle.std.specs.Cmp.{eq_by_cmp_equiv}
 use Rattle.std.specs.Cmp.Lexicographic.{pointwise, nat_list_cmp_total}
-use Rattle.std.specs.List.{filter, AllByRecursion}
+use Rattle.std.specs.List.{AllByRecursion}
 use Rattle.std.specs.List.Sorted.{IsStrictlySortedBy}
 use Rattle.std.specs.Option.{option_map}
 use Rattle.std.specs.Map.{lookup, keys_of, remove_entry}
 use Rattle.std.specs.BTreeMap.{is_at}
-use Rattle.std.specs.FinMap.{get, contains_key, from_entries, find, get-from_entries}
+use Rattle.std.specs.FinMap.{get, from_entries, find, get-from_entries}
 use Rattle.std.specs.FinMap.Entries.{where_key, find-where_key}
 use Rattle.neph_base.specs.Path.{slash}
 use Rattle.neph_tree.specs.Places.{behind, is_within}
-use Rattle.neph_tree.specs.Nodes.{Nodes, without}
+use Rattle.neph_tree.specs.Nodes.{without}
 use Rattle.neph_tree.specs.Entries.{shown, nodes_in, first_key, first_between}
 use Rattle.neph_tree.proofs.EntryLemmas.{order, same_nodes, get-shown, get-where}
 use Rattle.neph_tree.proofs.GrowthLemmas.{tied_same}
 use Rattle.neph_tree.proofs.RunLemmas.{is_between_bytes, between_begins, within_is}
-use Rattle.neph_tree.proofs.Within.{either, within_self, within_same, front_behind, bytes_same}
+use Rattle.neph_tree.proofs.Within.{either, within_same, front_behind, bytes_same}
 
 not_true : (b : Bool) → (b ≡ true → ⊥) → b ≡ false
 not_true true h = absurd (h refl)

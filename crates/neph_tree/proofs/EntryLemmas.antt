@@ -83,13 +83,18 @@ both : (a b : Bool) → T a → T b → T (a && b)
 both true b p q = q
 both false b p q = p
 
-first : (a b : Bool) → T (a && b) → T a
-first true b p = tt
-first false b p = p
+-- the first side of what holds together, and the second
+pub first_of : (a b : Bool) → T (a && b) → T a
+first_of true b p = tt
+first_of false b p = p
 
-second : (a b : Bool) → T (a && b) → T b
-second true b p = p
-second false b p = absurd p
+pub second_of : (a b : Bool) → T (a && b) → T b
+second_of true b p = p
+second_of false b p = absurd p
+
+pub none_there : {X : Type 0} (o : Option X) → is_some o ≡ false → o ≡ None
+none_there None e = refl
+none_there (Some x) e = absurd cc
 
 pub no_entries : {Y : Type 0} (es : List Y) → length es ≡ 0 → es ≡ []
 no_entries [] e = refl
@@ -98,7 +103,7 @@ no_entries (e ∷ es) h = absurd (omega arith)
 pub entries-from : {X : Type 0} (es : List (List ℕ × X)) → T (is_sorted order es) → entries (from_entries {R = order} es) ≡ es
 entries-from {X} [] h = no_entries _ (sym (len-entries (empty {X = X} {R = order})) ∙ len-empty order X)
 entries-from (e ∷ es) h =
-    entries-insert nat_list_cmp_total (from_entries es) e.0 e.1 ∙ ap (put order e.0 e.1) (entries-from es (second _ _ h)) ∙ below_put e.0 e.1 es (first _ _ h)
+    entries-insert nat_list_cmp_total (from_entries es) e.0 e.1 ∙ ap (put order e.0 e.1) (entries-from es (second_of _ _ h)) ∙ below_put e.0 e.1 es (first_of _ _ h)
 
 pub entries-retain_keys : {X : Type 0} (m : FinMap order X) (p : List ℕ → Bool) → entries (retain_keys m p) ≡ where_key order p (entries m)
 entries-retain_keys m p =

@@ -1,5 +1,5 @@
 -- A tree that grows by the nodes above a path.
-use Rattle.std.proofs.Common.{◌≡◌, ℕ, suc, ◌+◌, ◌-◌, ◌<◌, ◌≤◌, Bool, true, false, cond, List, [], ◌∷◌, ◌++◌, length, take, drop, map, get_or, Option, Some, None, is_some, refl, sym, ap, ◌∙◌, subst, arith, Ordering, Less, Equal, Greater}
+use Rattle.std.proofs.Common.{◌≡◌, ℕ, suc, ◌+◌, ◌-◌, ◌<◌, ◌≤◌, Bool, true, false, cond, List, [], ◌∷◌, ◌++◌, length, take, drop, map, get_or, Option, Some, None, refl, sym, ap, ◌∙◌, subst, arith, Ordering, Less, Equal, Greater}
 use Rattle.std.specs.Prelude.{not, ◌==◌}
 use Rattle.std.specs.Ordering.{is_eq, eq_by_cmp}
 use Rattle.std.specs.Cmp.{eq_by_cmp_equiv}
@@ -11,7 +11,7 @@ use Rattle.neph_base.specs.Path.{slash, is_path}
 use Rattle.neph_tree.specs.Places.{root, is_within, cuts}
 use Rattle.neph_tree.specs.Nodes.{Nodes, IsTree, with_missing, with_each_missing, without}
 use Rattle.neph_tree.specs.Growth.{first_made, GrowsWithin, IsGrown, IsMade, without_front}
-use Rattle.neph_tree.proofs.EntryLemmas.{order, same_nodes, get-where}
+use Rattle.neph_tree.proofs.EntryLemmas.{order, same_nodes, get-where, none_there}
 use Rattle.neph_tree.proofs.Within.{within_self, within_same, within_front, within_root, path_front, cuts-push, and_left}
 
 tied : (o : Ordering) → is_eq o ≡ true → o ≡ Equal
@@ -101,10 +101,6 @@ grown_last old now path value (Some first) is h =
       },
       h.1,
     )
-
-none_there : {X : Type 0} (o : Option X) → is_some o ≡ false → o ≡ None
-none_there None e = refl
-none_there (Some x) e = absurd cc
 
 -- nothing lies within a path that isn't there
 pub none_within : (m : Nodes) (top q : List ℕ) → IsTree m → is_path top ≡ true → contains_key m top ≡ false → is_within top q ≡ true → get m q ≡ None

@@ -1,11 +1,11 @@
 -- Two paths above one, and two homes.
-use Rattle.std.proofs.Common.{◌≡◌, ◌⊎◌, inl, inr, ℕ, suc, ◌+◌, ◌*◌, ◌/◌, ◌%◌, ◌<◌, ◌≤◌, Bool, true, false, cond, List, [], ◌∷◌, ◌++◌, length, drop, get_or, set, append_assoc, length-append, get_or-set_same, get_or-set_other, refl, sym, ap, ◌∙◌, subst, arith, ◌-◌, length-set}
-use Rattle.std.specs.Prelude.{nat_lt, ◌==◌, slice_index, if◌then◌else◌}
-use Rattle.std.proofs.lemmas.Bool.{cases_eq, eqb-true, ltb-true, ltb-false}
+use Rattle.std.proofs.Common.{◌≡◌, ◌⊎◌, inl, inr, ℕ, ◌+◌, ◌/◌, ◌%◌, ◌<◌, ◌≤◌, Bool, true, false, cond, List, [], ◌∷◌, ◌++◌, length, drop, get_or, set, append_assoc, length-append, get_or-set_same, get_or-set_other, refl, sym, ap, ◌∙◌, arith, ◌-◌, length-set}
+use Rattle.std.specs.Prelude.{nat_lt, ◌==◌}
+use Rattle.std.proofs.lemmas.Bool.{cases_eq, eqb-true}
 use Rattle.std.proofs.lemmas.List.{append-nil}
 use Rattle.neph_base.specs.Path.{slash}
 use Rattle.neph_tree.specs.Places.{front_of_children, is_within, decimal, home}
-use Rattle.neph_tree.proofs.Within.{within_self, within_same, within_below, within-cases, within_trans}
+use Rattle.neph_tree.proofs.Within.{within_same, within_below, within-cases, within_trans}
 
 -- ---- two paths above one
 head_same : (x y : ℕ) (xs ys : List ℕ) → x ∷ xs ≡ y ∷ ys → x ≡ y

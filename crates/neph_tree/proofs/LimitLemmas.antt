@@ -1,5 +1,5 @@
 -- What a write within a limit answers.
-use Rattle.std.proofs.Common.{◌≡◌, ◌⊎◌, inl, inr, ℕ, Bool, true, false, cond, List, Some, None, refl, sym, ap, ◌∙◌}
+use Rattle.std.proofs.Common.{◌≡◌, ◌⊎◌, inl, inr, ℕ, true, false, cond, List, Some, None, sym, ap, ◌∙◌}
 use Rattle.std.specs.Prelude.{not, Result, Ok, Err, IfErr, OnOk}
 use Rattle.neph_tree.specs.Places.{is_within, home}
 use Rattle.neph_tree.specs.Nodes.{Nodes, with_node}

@@ -1,15 +1,15 @@
 -- The names of children among the nodes below a path.
-use Rattle.std.proofs.Common.{◌≡◌, ◌≢◌, ℕ, Bool, true, false, cond, List, [], ◌∷◌, ◌++◌, map, length, Option, Some, None, is_some, refl, sym, ap, ◌∙◌, Vec}
+use Rattle.std.proofs.Common.{◌≡◌, ◌≢◌, ℕ, Bool, true, false, cond, List, [], ◌∷◌, ◌++◌, map, length, Option, None, is_some, refl, sym, ap, ◌∙◌, Vec}
 use Rattle.std.specs.Prelude.{◌==◌}
 use Rattle.std.specs.List.{filter_map, cons_option}
 use Rattle.std.specs.FinMap.{entries}
 use Rattle.std.specs.FinMap.Entries.{where_key}
 use Rattle.std.proofs.lemmas.Bool.{eqb-true}
 use Rattle.neph_base.specs.Path.{slash}
-use Rattle.neph_tree.specs.Places.{behind, front_of_children, as_name, child_name}
+use Rattle.neph_tree.specs.Places.{behind, as_name, child_name}
 use Rattle.neph_tree.specs.Nodes.{Nodes}
 use Rattle.neph_tree.specs.Entries.{shown}
-use Rattle.neph_tree.proofs.EntryLemmas.{order}
+use Rattle.neph_tree.proofs.EntryLemmas.{order, none_there}
 
 pub keys_twice : {A : Type 0} (es : List (Vec ℕ A × Vec ℕ A)) → map (λ e. e.0) (shown es) ≡ map (λ e. e.0.items) es
 keys_twice [] = refl
@@ -23,10 +23,6 @@ module _ {X : Type 0} (f : List ℕ → Option (List ℕ)) (p : List ℕ → Boo
         | true ↦ λ t. ap (λ ns. cons_option (f e.0) ns) (found_among es)
         | false ↦ λ t. found_among es ∙ sym (ap (λ o. cons_option o (filter_map f (map (λ d. d.0) es))) (none e.0 t))
       ] refl
-
-none_there : {X : Type 0} (o : Option X) → is_some o ≡ false → o ≡ None
-none_there None e = refl
-none_there (Some x) e = absurd cc
 
 -- a child's path begins with the directory and a slash
 no_child : (directory k : List ℕ) → length directory ≢ 1 → is_some (behind (directory ++ slash ∷ []) k) ≡ false → child_name directory k ≡ None

@@ -1,5 +1,5 @@
 -- The names of children keep the order of their paths.
-use Rattle.std.proofs.Common.{◌≡◌, ℕ, Bool, true, false, cond, ◌&&◌, List, [], ◌∷◌, ◌++◌, map, Option, Some, None, is_some, refl, sym, ap, ◌∙◌, arith, Ordering, Less, Equal, Greater}
+use Rattle.std.proofs.Common.{◌≡◌, ℕ, Bool, true, false, cond, List, [], ◌∷◌, ◌++◌, map, Option, Some, None, is_some, refl, sym, ap, ◌∙◌, arith, Ordering, Less, Equal, Greater}
 use Rattle.std.specs.Prelude.{T, ◌==◌, nat_lt}
 use Rattle.std.specs.Ordering.{nat_cmp, is_lt, ordering_then}
 use Rattle.std.specs.List.{filter_map, cons_option, AllByRecursion}
@@ -8,7 +8,7 @@ use Rattle.std.specs.FinMap.{is_sorted}
 use Rattle.std.specs.FinMap.Entries.{below_all}
 use Rattle.std.proofs.lemmas.Bool.{eq-eqb, ltb-true}
 use Rattle.neph_tree.specs.Places.{behind, front_of_children, rest_below, is_name, as_name, child_name}
-use Rattle.neph_tree.proofs.EntryLemmas.{order}
+use Rattle.neph_tree.proofs.EntryLemmas.{order, first_of, second_of}
 use Rattle.neph_tree.proofs.Within.{front_behind, behind-front}
 
 self_cmp : (x : ℕ) → nat_cmp x x ≡ Equal
@@ -43,14 +43,6 @@ less : (o : Ordering) → T (is_lt o) → o ≡ Less
 less Less h = refl
 less Equal h = absurd h
 less Greater h = absurd h
-
-first_of : (a b : Bool) → T (a && b) → T a
-first_of true b p = tt
-first_of false b p = p
-
-second_of : (a b : Bool) → T (a && b) → T b
-second_of true b p = p
-second_of false b p = absurd p
 
 module _ {X : Type 0} (directory : List ℕ) where
   later : (path name : List ℕ) → path ≡ front_of_children directory ++ name → (es : List (List ℕ × X)) → T (below_all order path es) → AllByRecursion (λ y. order name y ≡ Less) (filter_map (λ k. child_name directory k) (map (λ e. e.0) es))

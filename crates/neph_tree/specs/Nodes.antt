@@ -43,4 +43,6 @@ child_names nodes directory = filter_map (λ path. child_name directory path) (k
 -- every key is a path, and every path above a node is a node
 pub record IsTree (nodes : Nodes) : Type 0 where
   pub paths : (path : List ℕ) → IsTrue (contains_key nodes path) → IsTrue (is_path path)
-  pub closed : (above path : List ℕ) → IsTrue (is_path above) → IsTrue (is_within above path) → IsTrue (contains_key nodes path) → IsTrue (contains_key nodes above)
+  pub closed :
+      (above path : List ℕ) → IsTrue (is_path above) → IsTrue (is_within above path)
+      → IsTrue (contains_key nodes path) → IsTrue (contains_key nodes above)

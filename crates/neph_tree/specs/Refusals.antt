@@ -1,5 +1,5 @@
 -- Why a domain may not change the store.
-use Rattle.std.specs.Prelude.{ℕ, Bool, not, List, Option, Some, None, nat_lt, if◌then◌else◌}
+use Rattle.std.specs.Prelude.{◌≡◌, ◌⊎◌, true, ℕ, Bool, not, List, Option, Some, None, nat_lt, if◌then◌else◌}
 use Rattle.std.specs.FinMap.{contains_key, len}
 use Rattle.neph_tree.specs.Places.{is_within, home}
 use Rattle.neph_tree.specs.Nodes.{Nodes, subtree, with_node}
@@ -12,6 +12,11 @@ use Rattle.neph_tree.specs.declared.refusals.TheConstants.{DOMAIN_NODES}
 -- more than 256 nodes
 abbrev pub is_over : Nodes → List ℕ → Bool
 is_over nodes home = nat_lt DOMAIN_NODES (len (subtree nodes home))
+
+-- a write within a domain's home fails for want of memory, or since the home would be too large
+abbrev pub FailsWithin : Nodes → ℕ → WriteRefused → Type 0
+FailsWithin after me why =
+    (why ≡ write.NoMemory) ⊎ ((why ≡ write.NodeLimit) × (is_over after (home me) ≡ true))
 
 -- a domain writes within its own home, which may not come to more than 256 nodes
 abbrev pub write_refusal : Nodes → ℕ → List ℕ → List ℕ → Option WriteRefused

@@ -64,8 +64,8 @@ fn grow_and_set(
     Ok(())
 }
 
-// Makes the nodes above it that are missing. `top` tells the length of the first that was made, also
-// after want of memory.
+// Makes the nodes above it that are missing. `top` tells the length of the first that was made,
+// also after want of memory.
 fn grow(nodes: &mut NodeMap, path: &[u8], top: &mut Option<usize>) -> Result<(), NoMemory>
     requires tree { IsTree nodes.old }
     requires path { IsTrue (is_path path.now) }

@@ -1,10 +1,10 @@
 // Writes within a limit.
-ghost use Rattle.std.specs.Prelude.{◌≡◌, ◌⊎◌, true, false, IsTrue, IfErr, OnOk, OnErr};
+ghost use Rattle.std.specs.Prelude.{◌≡◌, true, false, IsTrue, IfErr, OnOk, OnErr};
 ghost use Rattle.std.specs.FinMap.{contains_key};
 ghost use Rattle.neph_base.specs.Path.{is_path};
 ghost use Rattle.neph_tree.specs.Nodes.{IsTree, with_node};
 ghost use Rattle.neph_tree.specs.Places.{home};
-ghost use Rattle.neph_tree.specs.Refusals.{is_over};
+ghost use Rattle.neph_tree.specs.Refusals.{is_over, FailsWithin};
 
 use crate::growth::{cut_front, put};
 use crate::node_map::NodeMap;
@@ -21,10 +21,9 @@ pub(crate) fn put_within(
     requires tree { IsTree nodes.old }
     requires path { IsTrue (is_path path.now) }
     ensures ok { OnOk result (nodes.new ≡ with_node nodes.old path.now value.items) }
-    ensures allowed { OnOk result (is_over (with_node nodes.old path.now value.items) (home me) ≡ false) }
-    ensures why { IfErr result (λ why. (why ≡ WriteRefused.NoMemory)
-        ⊎ ((why ≡ WriteRefused.NodeLimit)
-        × (is_over (with_node nodes.old path.now value.items) (home me) ≡ true))) }
+    ensures allowed { OnOk result
+        (is_over (with_node nodes.old path.now value.items) (home me) ≡ false) }
+    ensures why { IfErr result (FailsWithin (with_node nodes.old path.now value.items) me) }
     ensures err { OnErr result (nodes.new ≡ nodes.old) }
 {
     if nodes.contains(path) {
@@ -45,10 +44,9 @@ fn replace_within(
     requires path { IsTrue (is_path path.now) }
     requires there { contains_key nodes.old path.now ≡ true }
     ensures ok { OnOk result (nodes.new ≡ with_node nodes.old path.now value.items) }
-    ensures allowed { OnOk result (is_over (with_node nodes.old path.now value.items) (home me) ≡ false) }
-    ensures why { IfErr result (λ why. (why ≡ WriteRefused.NoMemory)
-        ⊎ ((why ≡ WriteRefused.NodeLimit)
-        × (is_over (with_node nodes.old path.now value.items) (home me) ≡ true))) }
+    ensures allowed { OnOk result
+        (is_over (with_node nodes.old path.now value.items) (home me) ≡ false) }
+    ensures why { IfErr result (FailsWithin (with_node nodes.old path.now value.items) me) }
     ensures err { OnErr result (nodes.new ≡ nodes.old) }
 {
     if is_over(nodes, me) {
@@ -71,10 +69,9 @@ fn make_within(
     requires path { IsTrue (is_path path.now) }
     requires new { contains_key nodes.old path.now ≡ false }
     ensures ok { OnOk result (nodes.new ≡ with_node nodes.old path.now value.items) }
-    ensures allowed { OnOk result (is_over (with_node nodes.old path.now value.items) (home me) ≡ false) }
-    ensures why { IfErr result (λ why. (why ≡ WriteRefused.NoMemory)
-        ⊎ ((why ≡ WriteRefused.NodeLimit)
-        × (is_over (with_node nodes.old path.now value.items) (home me) ≡ true))) }
+    ensures allowed { OnOk result
+        (is_over (with_node nodes.old path.now value.items) (home me) ≡ false) }
+    ensures why { IfErr result (FailsWithin (with_node nodes.old path.now value.items) me) }
     ensures err { OnErr result (nodes.new ≡ nodes.old) }
 {
     match put(nodes, path, value) {

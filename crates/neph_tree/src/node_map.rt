@@ -1,5 +1,5 @@
 // A finite map from byte strings, in their order.
-ghost use Rattle.std.specs.Prelude.{◌≡◌, ◌≢◌, ◌++◌, ◌∷◌, [], true, length, IfOk, OnOk, OnErr, slice_get};
+ghost use Rattle.std.specs.Prelude.{◌≡◌, ◌≢◌, [], true, length, IfOk, OnOk, OnErr, slice_get};
 ghost use Rattle.std.specs.Option.{option_copied, option_map};
 ghost use Rattle.std.specs.Ordering.{nat_cmp};
 ghost use Rattle.std.specs.Cmp.Lexicographic.{slice_cmp};
@@ -127,7 +127,8 @@ impl NodeMap {
 
     // The node itself, if it is there.
     fn node_itself(&self, path: &[u8]) -> Result<Vec<(Bytes, Bytes)>, NoMemory>
-        ensures { IfOk result (λ nodes. nodes.items ≡ entry_at path.now (map.get self.now path.now)) }
+        ensures { IfOk result (λ nodes.
+            nodes.items ≡ entry_at path.now (map.get self.now path.now)) }
     {
         let mut nodes = Vec::new(self.alloc);
         match self.get(path) {
@@ -185,7 +186,8 @@ impl NodeMap {
 
     // The node at a place in the order.
     pub(crate) fn entry(&self, place: u32) -> Option<(&[u8], &[u8])>
-        ensures { option_map (λ p. (p.0.now, p.1.now)) result ≡ slice_get (map.entries self.now) place }
+        ensures { option_map (λ p. (p.0.now, p.1.now)) result
+            ≡ slice_get (map.entries self.now) place }
     {
         match self.entries.iter().nth(place as usize) {
             Some((path, value)) => Some((path, value)),

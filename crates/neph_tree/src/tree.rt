@@ -161,8 +161,8 @@ impl Tree {
         self.nodes.len()
     }
 
-    /// Path and value of the node at a place in byte order of the paths, from 0, `None` exactly where
-    /// there is no such place.
+    /// Path and value of the node at a place in byte order of the paths, from 0, `None` exactly
+    /// where there is no such place.
     pub fn node(&self, i: u32) -> Result<Option<(Bytes, Bytes)>, NoMemory>
         ensures { IfOk result (λ node. node ≡ slice_get (map.entries self.now) i) }
     {

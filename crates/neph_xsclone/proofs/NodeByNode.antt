@@ -1,5 +1,5 @@
 -- Each node of a parent has its copy.
-use Rattle.std.proofs.Common.{◌≡◌, ◌⊎◌, inl, inr, ℕ, ◌+◌, ◌/◌, ◌%◌, ◌<◌, Bool, true, false, cond, ◌&&◌, ◌||◌, List, [], ◌∷◌, ◌++◌, map, length, drop, get_or, Option, Some, None, is_some, refl, sym, ap, ◌∙◌, subst, arith, append_assoc, Ordering, Less, Equal, Greater}
+use Rattle.std.proofs.Common.{◌≡◌, ◌⊎◌, inl, inr, ℕ, ◌+◌, ◌/◌, ◌%◌, ◌<◌, Bool, true, false, cond, ◌||◌, List, [], ◌∷◌, ◌++◌, map, length, drop, get_or, Option, Some, None, is_some, refl, sym, ap, ◌∙◌, subst, arith, append_assoc, Ordering, Less, Equal, Greater}
 use Rattle.std.specs.Prelude.{T, nat_eq, nat_lt, ◌==◌, codes, unwrap_or}
 use Rattle.std.specs.Option.{option_map}
 use Rattle.std.specs.Ordering.{is_eq, is_lt, eq_by_cmp}
@@ -11,7 +11,7 @@ use Rattle.std.proofs.lemmas.Bool.{eqb-true, ltb-false}
 use Rattle.neph_base.specs.Path.{slash}
 use Rattle.neph_tree.specs.Places.{behind, front_of_children, decimal, home, is_within, ancestors}
 use Rattle.neph_tree.specs.Nodes.{Nodes, subtree, with_missing, with_each_missing, with_node, with_nodes}
-use Rattle.neph_tree.proofs.EntryLemmas.{order, get-where, entries-retain_keys}
+use Rattle.neph_tree.proofs.EntryLemmas.{order, get-where, entries-retain_keys, first_of, second_of}
 use Rattle.neph_tree.proofs.GrowthLemmas.{tied_same, insert_there, insert_elsewhere}
 use Rattle.neph_tree.proofs.Within.{bytes_same}
 use Rattle.neph_xsclone.specs.Rewriting.{moved_or_same, value_in_clone, copied, copies_within, backend}
@@ -156,14 +156,6 @@ all_within : (m : Nodes) (from : List ℕ) → AllWithin from (entries (subtree 
 all_within m from =
     let All : List (List ℕ × List ℕ) → Type 0 = λ es. AllWithin from es in
     subst All (sym (entries-retain_keys m (λ p. is_within from p))) (where_within from (entries m))
-
-first_of : (a b : Bool) → T (a && b) → T a
-first_of true b p = tt
-first_of false b p = p
-
-second_of : (a b : Bool) → T (a && b) → T b
-second_of true b p = p
-second_of false b p = absurd p
 
 not_less : (o : Ordering) → is_eq o ≡ true → T (is_lt o) → ⊥
 not_less Less e h = absurd cc

@@ -1,8 +1,6 @@
 // Texts that are put together.
-ghost use Rattle.std.specs.Prelude.{◌≡◌, ◌++◌, ◌∷◌, [], IfOk};
-ghost use Rattle.std.specs.Option.{option_copied, option_map};
-ghost use Rattle.neph_base.specs.Path.{slash};
-ghost use Rattle.neph_tree.specs.Places.{behind, decimal};
+ghost use Rattle.std.specs.Prelude.{◌≡◌, ◌++◌, IfOk};
+ghost use Rattle.std.specs.Option.{option_map};
 ghost use Rattle.neph_xsclone.specs.Rewriting.{moved, moved_or_same, backend};
 
 use neph_base::{DomId, NoMemory, SLASH};

@@ -1,6 +1,5 @@
 // The value that a node's copy has.
 ghost use Rattle.std.specs.Prelude.{◌≡◌, IfOk};
-ghost use Rattle.std.specs.Option.{option_copied};
 ghost use Rattle.neph_base.specs.Path.{is_component, is_path_byte};
 ghost use Rattle.neph_tree.specs.Places.{behind};
 ghost use Rattle.neph_xsclone.specs.Rewriting.{id_in_clone, kind_in, backends, backend_in_clone, path_in_clone, value_in_clone};

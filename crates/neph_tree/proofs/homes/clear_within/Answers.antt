@@ -1,4 +1,4 @@
-use Rattle.std.proofs.Common.{refl, sym, ◌∙◌, ◌<◌, arith}
+use Rattle.std.proofs.Common.{refl, sym, ◌∙◌, arith}
 use Rattle.neph_tree.proofs.HomeLemmas.{clear_at, skip_home}
 use Rattle.neph_tree.proofs.homes.clear_within.Goals as goal
 use Rattle.neph_tree.proofs.homes.clear_within.Goals.{then-has_home, else-has_home}

@@ -1,5 +1,5 @@
 use Rattle.std.proofs.Common.{◌≡◌, arith, sym, ◌∙◌, ap, ℕ, List, length}
-use Rattle.neph_net.specs.Families.{is_member, members}
+use Rattle.neph_net.specs.Families.{is_member}
 use Rattle.neph_net.proofs.Counting.{below, below_none, members_all, length-below_true, length-below_false}
 use Rattle.neph_net.proofs.switch.Switch.count.Goals.{then-has, else-has}
 use Rattle.neph_net.proofs.switch.Switch.count.Goals as goal

@@ -1,11 +1,11 @@
 use Rattle.std.proofs.Common.{◌≡◌, ℕ, List, [], ◌∷◌, ◌++◌, map, refl, sym, ap, ◌∙◌, subst}
 use Rattle.std.proofs.lemmas.List.{append-nil}
 use Rattle.std.specs.Prelude.{Vec}
-use Rattle.std.specs.FinMap.{entries}
+use Rattle.std.specs.FinMap.{entries, entries_sorted}
 use Rattle.std.specs.List.{filter_map}
 use Rattle.neph_tree.specs.Places.{child_name}
 use Rattle.neph_tree.specs.Entries.{shown}
-use Rattle.neph_tree.proofs.EntryLemmas.{order, entries-shown, sorted-shown}
+use Rattle.neph_tree.proofs.EntryLemmas.{order, entries-shown}
 use Rattle.neph_tree.proofs.OrderLemmas.{sorted_names}
 use Rattle.neph_tree.proofs.NameLemmas.{keys_twice}
 use Rattle.std.specs.List.Sorted.{IsStrictlySortedBy}
@@ -30,9 +30,6 @@ returns-clause-names c =
 
 pub returns-clause-order : goal.returns-clause-order
 returns-clause-order c =
-    let es = c.self.inside.entries.entries in
-    let names = filter_map (λ k. child_name c.args.directory.now k) in
-    let done : c.loop-path.names.items ++ [] ≡ names (map (λ e. e.0.items) es) = ap (λ left. c.loop-path.names.items ++ names (map (λ k. k.items) left)) (sym c.in-None.ensures.steps.0) ∙ c.loop-path.invariant in
-    let same = c.of-2.ensures ∙ sym (append-nil _) ∙ done ∙ ap names (sym (keys_twice es)) in
+    let m = c.args.self.now in
     let Sorted : List (List ℕ) → Type 0 = λ ns. IsStrictlySortedBy order ns in
-    subst Sorted (sym same) (sorted_names c.args.directory.now (shown es) (sorted-shown es c.keys-path-items.ensures.ordered))
+    subst Sorted (sym (returns-clause-names c)) (sorted_names c.args.directory.now (entries m) (entries_sorted m))

@@ -42,16 +42,5 @@ pub returns-clause-order : goal.returns-clause-order
 returns-clause-order c =
     let top = c.args.directory.now in
     let m = c.args.self.now in
-    let es = c.self.inside.entries.entries in
-    let between : List ℕ → List ℕ → List (List ℕ × List ℕ) → List (List ℕ × List ℕ) = λ lo hi xs. where_key order (λ q. is_le (order lo q) && not (is_le (order hi q))) xs in
-    let names : List (List ℕ) → List (List ℕ) = λ ks. filter_map (λ k. child_name top k) ks in
-    let all = c.into_iter-path-iterator.result in
-    let run = ap (λ xs. shown xs) (c.into_iter-path-iterator.ensures.into_iter_gives ∙ c.range-path-items.ensures.between tt)
-    ∙ shown-filter (λ q. is_le (order c.in_ok-low.low.items q) && not (is_le (order c.in_ok-high.high.items q))) es
-    ∙ ap (λ lo. between lo c.in_ok-high.high.items (shown es)) c.in_ok-low.ensures ∙ ap (λ hi. between (top ++ slash ∷ []) hi (shown es)) c.in_ok-high.ensures
-    ∙ ap (λ xs. between (top ++ slash ∷ []) (top ++ (slash + 1) ∷ []) xs) (sym (entries-shown es c.range-path-items.ensures.ordered) ∙ ap (λ n. entries n) c.self.view_is) ∙ between_run m top
-    in
-    let done : c.loop-path.names.items ++ [] ≡ c.new-names.result.items ++ names (map (λ e. e.0.items) all) = ap (λ left. c.loop-path.names.items ++ names (map (λ e. e.0.items) left)) (sym c.in-None.ensures.steps.0) ∙ c.loop-path.invariant in
-    let whole : c.of-2.result ≡ child_names m top = c.of-2.ensures ∙ sym (append-nil _) ∙ done ∙ ap (λ (front : List (List ℕ)). front ++ names (map (λ e. e.0.items) all)) c.new-names.ensures.items ∙ ap names (sym (keys_twice all)) ∙ ap (λ xs. names (map (λ e. e.0) xs)) run ∙ names_run m top c.requires in
     let Sorted : List (List ℕ) → Type 0 = λ ns. IsStrictlySortedBy order ns in
-    subst Sorted (sym whole) (sorted_names top (entries m) (entries_sorted m))
+    subst Sorted (sym (returns-clause-names c)) (sorted_names top (entries m) (entries_sorted m))

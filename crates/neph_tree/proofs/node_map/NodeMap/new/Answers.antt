@@ -1,4 +1,4 @@
-use Rattle.std.proofs.Common.{◌<◌, ◌∙◌, arith}
+use Rattle.std.proofs.Common.{◌∙◌, arith}
 use Rattle.std.specs.FinMap.{from_entries}
 use Rattle.neph_tree.specs.Entries.{shown}
 use Rattle.neph_tree.proofs.EntryLemmas.{order, len-shown}
