@@ -21,7 +21,6 @@ use crate::call::{go_on, lent};
 use crate::child::{child_own, none_alone};
 use crate::end::FlatEnd;
 use crate::flat_pages::FlatPages;
-use crate::jump::command_at;
 use crate::local::local;
 use neph_base::{Command, DomId, Entry, List, NoMemory, Reply};
 use neph_laws::stays_apart;
@@ -63,11 +62,7 @@ impl Halves {
         ensures value { result ≡ next_command script.now (seen self.now) id }
         ensures fits { FitsPage result }
     {
-        command_at(
-            script,
-            self.registry.program(id),
-            self.own[id.get() as usize].line,
-        )
+        script.command_at(self.registry.program(id), self.own[id.get() as usize].line)
     }
 
     /// Does an entry, where it is due.
@@ -158,7 +153,7 @@ impl Halves {
             (entry.Line dom line) told result }
     {
         let program = self.registry.program(dom);
-        let command = command_at(script, program, line);
+        let command = script.command_at(program, line);
         let o = &mut self.own[dom.get() as usize];
         match local(script, program, o, told, &command)? {
             Some(reply) => Ok(reply),

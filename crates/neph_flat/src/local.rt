@@ -9,7 +9,7 @@ ghost use Rattle.std.specs.Option.{option_map};
 ghost use Rattle.neph_flat.specs.Sound.{IsMapped};
 ghost use Rattle.neph_flat.specs.Local.{RowDone, LocalDone, Settled};
 
-use crate::jump::{jump, label_line};
+use crate::jump::jump;
 use crate::memory::{Row, map, read, unmap, write};
 use neph_base::{Command, NoMemory, Reply};
 use neph_model::{Own, Script, Told};
@@ -48,16 +48,16 @@ pub fn local(
             Ok(settle(o, row))
         }
         Command::Jump { label } => {
-            let line = label_line(script, program, *label);
+            let line = script.label_line(program, *label);
             Ok(Some(jump(o, line, true)))
         }
         Command::JChild { label } => {
-            let line = label_line(script, program, *label);
+            let line = script.label_line(program, *label);
             let taken = o.came;
             Ok(Some(jump(o, line, taken)))
         }
         Command::JFail { label } => {
-            let line = label_line(script, program, *label);
+            let line = script.label_line(program, *label);
             let taken = o.refused;
             Ok(Some(jump(o, line, taken)))
         }

@@ -15,7 +15,7 @@ use Rattle.neph_guest.specs.declared.row.Row.TheVariants as row
 use Rattle.neph_guest.specs.declared.row.LocalTurn.{LocalTurn}
 use Rattle.neph_guest.specs.declared.row.LocalTurn.TheVariants as turn
 use Rattle.neph_guest.specs.OwnHalf.{IsOwnMemory, IsOwnHalf}
-use Rattle.neph_guest.specs.Turns.{IsJump, RowDone, TurnDone, memory_step, spare_after, LookDone, guest_after, stage_after, turn_of}
+use Rattle.neph_guest.specs.Turns.{IsJump, RowDone, TurnDone, memory_step, spare_after, HeldSpare, LookDone, guest_after, stage_after, turn_of}
 
 -- how far the guest is, and which it is, behind a row that came to this
 pub stage_done : (g : Guest) (x : Row) → (guest_after g x).stage ≡ stage_after g.stage (turn_of x)
@@ -70,6 +70,18 @@ module _ {Pool Seat : Type 0} (W : World Pool Seat) (p : Pool) (l : Live Pool Se
   jump_look command.Exit t j = absurd j
   jump_look command.Free t j = absurd j
   jump_look command.Clone t j = absurd j
+
+  pub jump_held : (c : Command) (t : LocalTurn) → IsJump c → HeldSpare W p l.local c t
+  jump_held (command.W addr bytes) t j = absurd j
+  jump_held (command.R addr len) t j = absurd j
+  jump_held (command.Map vpn pfn mode) t j = absurd j
+  jump_held (command.Unmap vpn) t j = absurd j
+  jump_held (command.Jump label) t j = tt
+  jump_held (command.JChild label) t j = tt
+  jump_held (command.JFail label) t j = tt
+  jump_held command.Exit t j = absurd j
+  jump_held command.Free t j = absurd j
+  jump_held command.Clone t j = absurd j
 
   -- behind a row that left this memory
   module _ (q : Pool) (d : DomLocal Pool Seat) (o : Own) (half : IsOwnHalf W p l o) where

@@ -34,7 +34,7 @@ use Rattle.neph_memory.proofs.Rooming.{room_after}
 use Rattle.neph_memory.specs.OwnHalf.{IsReadAs}
 use Rattle.neph_guest.specs.OwnHalf.{IsOwnMemory}
 use Rattle.neph_guest.specs.declared.row.Row.{Row}
-use Rattle.neph_guest.specs.Turns.{RowDone, RowDoneOrLacks, IsRowOfMap, HandDone, LookDone, IsWithoutSpare, IsWriteInHand, memory_step, row_of_write, row_of_read, row_of_unmap, spare_after, turn_of}
+use Rattle.neph_guest.specs.Turns.{RowDone, RowDoneOrLacks, IsRowOfMap, HandDone, LookDone, HeldSpare, IsWithoutSpare, IsWriteInHand, memory_step, row_of_write, row_of_read, row_of_unmap, spare_after, turn_of}
 use Rattle.neph_memory.proofs.HalfParts.{same}
 use Rattle.neph_guest.proofs.HalfRows.{write_row, read_row, map_row, unmap_row}
 
@@ -231,3 +231,18 @@ map_lacks false None (Some f) (Err fault.NeedSpare) ans y t = absurd ans
 map_lacks false (Some leaf) spare (Err fault.NeedSpare) ans y t = absurd ans
 map_lacks bad leaf spare (Err fault.NoMemory) ans (Ok row) t = absurd t
 map_lacks bad leaf spare (Err fault.NoMemory) ans (Err lacks) t = tt
+
+held_by : (bad : Bool) (leaf spare : Option ℕ) (done : Unit) → IsMapAnswer bad leaf spare (Ok done) → leaf ≡ None → IsSome spare
+held_by true leaf spare done ans e = absurd (cc)
+held_by false None None done ans e = absurd (cc)
+held_by false None (Some f) done ans e = refl
+held_by false (Some leaf) spare done ans e = absurd (cc)
+
+-- a `map` that was done without its leaf table held a spare
+pub map_held : {Pool Seat : Type 0} (W : World Pool Seat) (p : Pool) (d : DomLocal Pool Seat) (vpn pfn : ℕ) (mode : Mode) → vpn < 2 ^ 18 → (bad : Bool) (r : Result Unit MapFault) → IsMapAnswer bad (domain_leaf W p d (vpn / TABLE_ENTRIES)) d.own.spare r → (y : Result Row NoMemory) → IsRowOfMap r y
+    → IfOk y (λ row. HeldSpare W p d (command.Map vpn pfn mode) (turn_of row))
+map_held W p d vpn pfn mode lt bad (Ok done) ans y t = subst (λ (z : Result Row NoMemory). IfOk z (λ row. HeldSpare W p d (command.Map vpn pfn mode) (turn_of row))) (sym t) (lt, held_by bad _ d.own.spare done ans)
+map_held W p d vpn pfn mode lt bad (Err fault.BadPfn) ans y t = subst (λ (z : Result Row NoMemory). IfOk z (λ row. HeldSpare W p d (command.Map vpn pfn mode) (turn_of row))) (sym t) tt
+map_held W p d vpn pfn mode lt bad (Err fault.NeedSpare) ans y t = subst (λ (z : Result Row NoMemory). IfOk z (λ row. HeldSpare W p d (command.Map vpn pfn mode) (turn_of row))) (sym t) tt
+map_held W p d vpn pfn mode lt bad (Err fault.NoMemory) ans (Ok row) t = absurd t
+map_held W p d vpn pfn mode lt bad (Err fault.NoMemory) ans (Err lacks) t = tt

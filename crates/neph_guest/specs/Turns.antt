@@ -184,6 +184,14 @@ spare_after W p d (command.Map vpn pfn mode) (turn.Did reply.Done) =
     spare_after_map (domain_leaf W p d (vpn / TABLE_ENTRIES)) d.own.spare
 spare_after W p d _ _ = d.own.spare
 
+-- A `map` that was done is one of a virtual page that there is, and the memory d held a spare
+-- where the leaf table wasn't there.
+abbrev pub HeldSpare : {Pool Seat : Type 0} → World Pool Seat → Pool → DomLocal Pool Seat
+    → Command → LocalTurn → Type 0
+HeldSpare W p d (command.Map vpn pfn mode) (turn.Did reply.Done) =
+    (vpn < 2 ^ 18) × (domain_leaf W p d (vpn / TABLE_ENTRIES) ≡ None → IsSome d.own.spare)
+HeldSpare W p d _ _ = ⊤
+
 -- a turn that lacks a frame had this spare, which is none
 abbrev pub IsWithoutSpare : LocalTurn → Option ℕ → Type 0
 IsWithoutSpare turn.LacksFrame spare = spare ≡ None
@@ -193,7 +201,8 @@ IsWithoutSpare _ spare = ⊤
 -- table beside those of each page, the root, each leaf table and another spare.
 abbrev pub HasLeafRoom : {Pool Seat : Type 0} → World Pool Seat → Pool → DomLocal Pool Seat
     → Command → Type 0
-HasLeafRoom W p d (command.Map vpn pfn mode) = domain_leaf W p d (vpn / TABLE_ENTRIES) ≡ None
+HasLeafRoom W p d (command.Map vpn pfn mode) = vpn < 2 ^ 18
+    → domain_leaf W p d (vpn / TABLE_ENTRIES) ≡ None
     → length d.own.map.pages + 3 + domain_leaf_count W p d ≤ W.cap p
 HasLeafRoom W p d _ = ⊤
 

@@ -4,22 +4,12 @@ ghost use Rattle.neph_model.specs.declared.own.Own.{Own};
 ghost use Rattle.neph_model.specs.declared.script.Script.{Script};
 ghost use Rattle.neph_model.specs.declared.told.Told.TheVariants.{Enough};
 ghost use Rattle.neph_model.specs.Own.{local_step};
-ghost use Rattle.neph_model.specs.Programs.{program_at, label_line};
+ghost use Rattle.neph_model.specs.Programs.{program_at};
 ghost use Rattle.neph_guest.specs.Turns.{IsJump, IsJumped, JumpDone};
 
 use crate::live::Guest;
 use neph_base::{Command, Reply};
 use neph_model::Program;
-
-/// The line that a label of the program names, by the label's place.
-pub fn label_line(program: &Program, label: u16) -> u16
-    ensures { result ≡ label_line program.now.labels label }
-{
-    match program.labels.items().get(label as usize) {
-        Some(label) => label.at,
-        None => 0,
-    }
-}
 
 // Jumps to a line, where the jump is taken.
 fn land(guest: &mut Guest, line: u16, taken: bool) -> Reply
@@ -49,16 +39,16 @@ pub fn jump(guest: &mut Guest, program: &Program, command: &Command) -> Option<R
 {
     match command {
         Command::Jump { label } => {
-            let line = label_line(program, *label);
+            let line = program.label_line(*label);
             Some(land(guest, line, true))
         }
         Command::JChild { label } => {
-            let line = label_line(program, *label);
+            let line = program.label_line(*label);
             let taken = guest.came;
             Some(land(guest, line, taken))
         }
         Command::JFail { label } => {
-            let line = label_line(program, *label);
+            let line = program.label_line(*label);
             let taken = guest.failed;
             Some(land(guest, line, taken))
         }

@@ -9,7 +9,7 @@ ghost use Rattle.neph_model.specs.WellFormed.{FitsPage};
 ghost use Rattle.neph_pool.specs.World.{World, SameCounts};
 ghost use Rattle.neph_memory.specs.Domains.{IsStanding, KeepsSeats, IsUnchanged};
 ghost use Rattle.neph_guest.specs.OwnHalf.{IsOwnHalf};
-ghost use Rattle.neph_guest.specs.Turns.{TurnDoneOrLacks, HandDone, LookDone, HasLeafRoom, IsMap, IsWithoutSpare, spare_after, stage_after};
+ghost use Rattle.neph_guest.specs.Turns.{TurnDoneOrLacks, HandDone, LookDone, HasLeafRoom, HeldSpare, IsMap, IsWithoutSpare, spare_after, stage_after};
 
 use crate::jump::jump;
 use crate::live::Live;
@@ -42,6 +42,8 @@ pub fn local_turn<P: FramePool>(
         command.now turn) }
     ensures spare { IfOk result (λ turn. live.new.local.own.spare
         ≡ spare_after P.world pool.old live.old.local command.now turn) }
+    ensures held { IfOk result (λ turn. HeldSpare P.world pool.old live.old.local command.now
+        turn) }
     ensures lacks { IfOk result (λ turn. IsWithoutSpare turn live.old.local.own.spare) }
     ensures stage { IfOk result (λ turn. live.new.guest.stage
         ≡ stage_after live.old.guest.stage turn) }

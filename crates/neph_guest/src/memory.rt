@@ -6,7 +6,7 @@ ghost use Rattle.neph_model.specs.WellFormed.{FitsPage};
 ghost use Rattle.neph_pool.specs.World.{World, SameCounts};
 ghost use Rattle.neph_memory.specs.Domains.{IsStanding, KeepsSeats, IsUnchanged};
 ghost use Rattle.neph_guest.specs.OwnHalf.{IsOwnMemory};
-ghost use Rattle.neph_guest.specs.Turns.{RowDone, RowDoneOrLacks, HandDone, LookDone, HasLeafRoom, IsMap, IsWithoutSpare, memory_step, spare_after, turn_of};
+ghost use Rattle.neph_guest.specs.Turns.{RowDone, RowDoneOrLacks, HandDone, LookDone, HasLeafRoom, HeldSpare, IsMap, IsWithoutSpare, memory_step, spare_after, turn_of};
 
 use crate::row::{Row, row_of_map, row_of_read, row_of_unmap, row_of_write};
 use neph_base::{Command, Mode, NoMemory, PAGE_BYTES, Pfn, Piece, VAddr, Vpn};
@@ -79,6 +79,8 @@ fn map<P: FramePool>(
         d.old.hand (turn_of row)) }
     ensures spare { IfOk result (λ row. d.new.own.spare
         ≡ spare_after P.world pool.old d.old (command.Map vpn pfn mode) (turn_of row)) }
+    ensures held { IfOk result (λ row. HeldSpare P.world pool.old d.old
+        (command.Map vpn pfn mode) (turn_of row)) }
     ensures lacks { IfOk result (λ row. IsWithoutSpare (turn_of row) d.old.own.spare) }
     ensures err { OnErr result (IsUnchanged P.world pool.old d.old pool.new d.new) }
     ensures pages { d.new.own.map.pages ≡ d.old.own.map.pages }
@@ -132,6 +134,8 @@ pub fn memory_row<P: FramePool>(
         (turn_of row)) }
     ensures spare { IfOk result (λ row. d.new.own.spare
         ≡ spare_after P.world pool.old d.old command.now (turn_of row)) }
+    ensures held { IfOk result (λ row. HeldSpare P.world pool.old d.old command.now
+        (turn_of row)) }
     ensures lacks { IfOk result (λ row. IsWithoutSpare (turn_of row) d.old.own.spare) }
     ensures err { OnErr result (IsUnchanged P.world pool.old d.old pool.new d.new) }
     ensures map { OnErr result (IsMap command.now) }

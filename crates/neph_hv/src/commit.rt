@@ -6,7 +6,7 @@ ghost use Rattle.neph_pool.specs.Names.{IsApart, both_names};
 ghost use Rattle.neph_pool.specs.World.{World, Moves, Spares};
 ghost use Rattle.neph_memory.specs.Domains.{IsStanding, IsUnchanged};
 ghost use Rattle.neph_local.specs.Copies.{IsChildOf, IsSameFork};
-ghost use Rattle.neph_local.specs.Forks.{IsForkInHand, NoPageLeft};
+ghost use Rattle.neph_local.specs.Forks.{Forks, IsForkInHand, NoPageLeft};
 ghost use Rattle.neph_heap.specs.Heap.{MayBear, IsBorn};
 ghost use Rattle.neph_hv.specs.Hv.{IsHv, shared_in};
 
@@ -21,7 +21,8 @@ use std::alloc::Global;
 impl<P: FramePool> Hv<P> {
     /// Commits the first clone that a live domain has begun. Its fork is in hand and has no page
     /// left: it becomes the child, whose exposed pages lie in the frames that were put aside for
-    /// them. An error is want of memory: all is as before, and the fork is in hand again.
+    /// them, and whose seat has what the fork's had. An error is want of memory: all is as before,
+    /// and the fork is in hand again.
     pub fn commit(
         &mut self,
         alloc: Global,
@@ -48,6 +49,8 @@ impl<P: FramePool> Hv<P> {
         ensures child { IfOk result (λ made. IsStanding P.world pool.new made.0) }
         ensures born { IfOk result (λ made. IsChildOf P.world pool.old d.old pool.new made.0) }
         ensures id { IfOk result (λ made. made.0.id ≡ k.child) }
+        ensures still { IfOk result (λ made. Forks P.world pool.new d.new.seat made.0.seat
+            made.0.id d.new.own.map.pages k.next k.frames.items) }
         ensures pages { OnOk result
             (IsBorn self.old.heap.stock self.new.heap.stock k.child) }
         ensures back { IfErr result (λ e. IsForkInHand P.world pool.new d.new e) }

@@ -10,12 +10,4 @@ pub mod FrameLaws
 pub mod FrameUses
 pub mod Carrying
 pub mod OnePlace
-pub mod LineTurns
-pub mod Sparing
-pub mod NoFrame
-pub mod Alone
-pub mod InHand
-pub mod Copied
-pub mod CopyTurns
-pub mod Exits
 pub mod Joining

@@ -4,7 +4,6 @@ pub mod Rows
 pub mod Reached
 pub mod StandsFor
 pub mod Turned
-pub mod Lines
-pub mod Ready
+pub mod Stages
 pub mod FrameUses
 pub mod Laws

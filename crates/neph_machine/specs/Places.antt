@@ -12,3 +12,9 @@ abbrev pub is_empty : {Pool Seat : Type 0} → Place Pool Seat → Bool
 is_empty Empty = true
 is_empty (Flight f) = false
 is_empty (Domain l) = false
+
+-- a live domain stands there
+abbrev pub IsLive : {Pool Seat : Type 0} → Place Pool Seat → Type 0
+IsLive Empty = ⊥
+IsLive (Flight f) = ⊥
+IsLive (Domain l) = Unit {0}

@@ -6,30 +6,30 @@ ghost use Rattle.neph_model.specs.Turns.{turn};
 ghost use Rattle.neph_pool.specs.World.{World};
 ghost use Rattle.neph_machine.specs.Reached.{state_after};
 ghost use Rattle.neph_machine.specs.StandsFor.{StandsFor};
-ghost use Rattle.neph_machine.specs.Turned.{TookOrLacked};
+ghost use Rattle.neph_machine.specs.Turned.{Took};
 
 use crate::machine::Machine;
 use crate::turn::Turn;
-use neph_base::{Actor, Entry, NoMemory, Noted};
+use neph_base::{Actor, Entry, Noted};
 use neph_pool::FramePool;
 
 impl<P: FramePool> Machine<P> {
     /// The turn of the daemon: the second stage of the oldest committed clone, where one waits.
     /// Takes no memory.
-    pub fn daemon_turn(&mut self) -> Result<Turn, NoMemory>
+    pub fn daemon_turn(&mut self) -> Turn
         ensures { (before : List Actor)
             → StandsFor P.world self.old (state_after self.old.script before)
-            → TookOrLacked P.world self.old self.new (state_after self.old.script before)
+            → Took P.world self.old self.new
             (turn self.old.script (state_after self.old.script before) Actor.Daemon) result }
     {
         if !self.hv.registry.has_waiting() {
-            return Ok(Turn::Rested);
+            return Turn::Rested;
         }
         let reply = self.hv.finish();
-        Ok(Turn::Noted(Noted {
+        Turn::Noted(Noted {
             entry: Entry::Daemon,
             reply,
-        }))
+        })
     }
 
     /// Whether no domain is live.

@@ -1,11 +1,9 @@
-//! The machine over counted frames: the hypervisor and the guests, in the places of their ids, and
-//! the turns that they take.
+//! The machine over counted frames: the hypervisor and the guests, in the places of their ids; the
+//! states of the definitions that it stands for, and the laws of the frames that follow.
 #![tactic(auto)]
 
 mod daemon;
-mod ending;
 mod laws;
-mod lines;
 mod machine;
 mod place;
 mod turn;
@@ -14,5 +12,5 @@ pub use laws::{
     count_tells_shared, free_is_listed, plain_pool_is_surveyed, sole_is_alone, uses_are_counts,
 };
 pub use machine::Machine;
-pub use place::{Flight, Place};
+pub use place::{Flight, Place, put_live, put_place, take_live, take_place};
 pub use turn::Turn;

@@ -1,4 +1,7 @@
 // A script: what its programs do, and which domains start.
+ghost use Rattle.std.specs.Prelude.{◌≡◌};
+ghost use Rattle.neph_model.specs.Programs.{command_at, label_line, label_line_at};
+
 use neph_base::{Actor, Command, List, Name, NoMemory, TryClone};
 
 /// A script.
@@ -12,6 +15,32 @@ pub struct Script {
     pub starts: Starts,
     /// Who has the first turns, in order.
     pub turns: Actors,
+}
+
+impl Script {
+    /// The command at a line of the program with this number. Behind the last there is an exit that
+    /// isn't written.
+    pub fn command_at(&self, program: u8, line: u16) -> Command
+        ensures { result ≡ command_at self.now program line }
+    {
+        let Some(program) = self.programs.items().get(program as usize) else {
+            return Command::Exit;
+        };
+        match program.commands.items().get(line as usize) {
+            Some(command) => *command,
+            None => Command::Exit,
+        }
+    }
+
+    /// The line that a label of the program with this number names, by the label's place.
+    pub fn label_line(&self, program: u8, label: u16) -> u16
+        ensures { result ≡ label_line_at self.now program label }
+    {
+        match self.programs.items().get(program as usize) {
+            Some(program) => program.label_line(label),
+            None => 0,
+        }
+    }
 }
 
 impl TryClone for Script {
@@ -35,6 +64,18 @@ pub struct Program {
     pub commands: Commands,
     /// At most 512 labels, in the order of their lines.
     pub labels: Labels,
+}
+
+impl Program {
+    /// The line that a label names, by the label's place.
+    pub fn label_line(&self, label: u16) -> u16
+        ensures { result ≡ label_line self.now.labels label }
+    {
+        match self.labels.items().get(label as usize) {
+            Some(label) => label.at,
+            None => 0,
+        }
+    }
 }
 
 impl TryClone for Program {

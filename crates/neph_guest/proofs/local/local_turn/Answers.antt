@@ -4,8 +4,8 @@ use Rattle.neph_model.specs.Own.{local_step}
 use Rattle.neph_guest.specs.declared.live.Guest.{Guest}
 use Rattle.neph_guest.specs.declared.row.LocalTurn.{LocalTurn}
 use Rattle.neph_guest.specs.OwnHalf.{IsOwnHalf}
-use Rattle.neph_guest.specs.Turns.{TurnDone, LookDone, guest_after, stage_after}
-use Rattle.neph_guest.proofs.Settling.{jumped, jump_spare, jump_look, settled, stage_done, dom_done}
+use Rattle.neph_guest.specs.Turns.{TurnDone, HeldSpare, LookDone, guest_after, stage_after}
+use Rattle.neph_guest.proofs.Settling.{jumped, jump_spare, jump_held, jump_look, settled, stage_done, dom_done}
 use Rattle.neph_guest.proofs.local.local_turn.Goals as goal
 
 pub returns-in-Some-clause-turn : goal.returns-in-Some-clause-turn
@@ -15,6 +15,9 @@ returns-in-Some-clause-turn g c = λ s p o e h.
 
 pub returns-in-Some-clause-spare : goal.returns-in-Some-clause-spare
 returns-in-Some-clause-spare g c = jump_spare g.P.FramePool.world c.args.pool.now c.args.live.now c.args.command.now _ c.in-Some.ensures.some
+
+pub returns-in-Some-clause-held : goal.returns-in-Some-clause-held
+returns-in-Some-clause-held g c = jump_held g.P.FramePool.world c.args.pool.now c.args.live.now c.args.command.now _ c.in-Some.ensures.some
 
 pub returns-in_ok-row-in-None-clause-turn : goal.returns-in_ok-row-in-None-clause-turn
 returns-in_ok-row-in-None-clause-turn g c = λ s p o e h.
@@ -29,6 +32,10 @@ returns-in_ok-row-in-None-clause-turn g c = λ s p o e h.
 
 pub returns-in-Some-clause-look : goal.returns-in-Some-clause-look
 returns-in-Some-clause-look g c = jump_look g.P.FramePool.world c.args.pool.now c.args.live.now c.args.command.now _ c.in-Some.ensures.some
+
+pub returns-in_ok-row-in-None-clause-held : goal.returns-in_ok-row-in-None-clause-held
+returns-in_ok-row-in-None-clause-held g c =
+    subst (HeldSpare g.P.FramePool.world c.args.pool.now c.args.live.now.local c.args.command.now) (sym c.settle.ensures.turn) c.in_ok-row-in-None.ensures.held
 
 pub returns-in_ok-row-in-None-clause-look : goal.returns-in_ok-row-in-None-clause-look
 returns-in_ok-row-in-None-clause-look g c =

@@ -1,7 +1,7 @@
 use Rattle.std.proofs.Common.{List, length, ap, arith}
 use Rattle.neph_base.specs.declared.command.Command.TheVariants as command
 use Rattle.neph_gmap.specs.declared.page.Page.{Page}
-use Rattle.neph_guest.proofs.Staying.{map_done, map_hand, map_spare, map_err, map_lacks}
+use Rattle.neph_guest.proofs.Staying.{map_done, map_hand, map_spare, map_err, map_held, map_lacks}
 use Rattle.neph_guest.proofs.memory.map.Goals as goal
 
 pub returns-clause-row : goal.returns-clause-row
@@ -27,3 +27,10 @@ returns-clause-err g c =
 
 pub returns-clause-lacks : goal.returns-clause-lacks
 returns-clause-lacks g c = map_lacks _ _ c.args.d.now.own.spare c.map_page-answer.result c.map_page-answer.ensures.answer c.row_of_map.result c.row_of_map.ensures
+
+pub returns-clause-held : goal.returns-clause-held
+returns-clause-held g c =
+    map_held g.P.FramePool.world c.args.pool.now c.args.d.now c.args.vpn c.args.pfn c.args.mode (omega (arith, c.get-number.ensures.value, c.get-number.ensures.range)) _ c.map_page-answer.result c.map_page-answer.ensures.answer c.row_of_map.result c.row_of_map.ensures
+
+pub map_page-answer-requires-clause-room : goal.map_page-answer-requires-clause-room
+map_page-answer-requires-clause-room g c = c.requires.cap (omega (arith, c.get-number.ensures.value, c.get-number.ensures.range))

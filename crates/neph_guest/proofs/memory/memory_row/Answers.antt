@@ -52,3 +52,15 @@ returns-in-Map-clause-look g c = rw c.in-Map.is (any_ok c.map.result)
 
 pub returns-in-Unmap-clause-look : goal.returns-in-Unmap-clause-look
 returns-in-Unmap-clause-look g c = rw c.in-Unmap.is tt
+
+pub returns-in-W-clause-held : goal.returns-in-W-clause-held
+returns-in-W-clause-held g c = rw c.in-W.is tt
+
+pub returns-in-R-clause-held : goal.returns-in-R-clause-held
+returns-in-R-clause-held g c = rw c.in-R.is tt
+
+pub returns-in-Map-clause-held : goal.returns-in-Map-clause-held
+returns-in-Map-clause-held g c = rw c.in-Map.is c.map.ensures.held
+
+pub returns-in-Unmap-clause-held : goal.returns-in-Unmap-clause-held
+returns-in-Unmap-clause-held g c = rw c.in-Unmap.is tt

@@ -43,6 +43,9 @@ returns-in-Ok-commit_row-clause-child g c = behind_stands g.P.FramePool.world c.
 pub returns-in-Ok-commit_row-clause-born : goal.returns-in-Ok-commit_row-clause-born
 returns-in-Ok-commit_row-clause-born g c = behind_child g.P.FramePool.world c.args.pool.now c.fork_end.new.pool c.args.self.now c.args.d.now c.fork_end.new.d c.args.k.seat c.requires.hv c.fork_end.ensures.same c.fork_end.ensures.others c.requires.apart c.requires.child c.commit_row.new.pool c.commit_row.ensures.moves.others c.in-Ok-fork_end.c c.in-Ok-fork_end.ensures.born c.in-Ok-fork_end.ensures.child c.in-Ok-fork_end.ensures.names
 
+pub returns-in-Ok-commit_row-clause-still : goal.returns-in-Ok-commit_row-clause-still
+returns-in-Ok-commit_row-clause-still g c = behind_fork g.P.FramePool.world c.args.pool.now c.fork_end.new.pool c.args.self.now c.args.d.now c.fork_end.new.d c.args.k.seat c.requires.hv c.fork_end.ensures.same c.fork_end.ensures.others c.requires.apart c.requires.child c.commit_row.new.pool c.commit_row.ensures.moves.others c.in-Ok-fork_end.c c.args.k.child c.args.k.next c.args.k.frames.items (sym c.in-Ok-fork_end.ensures.id) c.in-Ok-fork_end.ensures.names c.in-Ok-fork_end.ensures.still
+
 pub returns-in-Err-commit_row-clause-stands : goal.returns-in-Err-commit_row-clause-stands
 returns-in-Err-commit_row-clause-stands g c = behind_parent g.P.FramePool.world c.args.pool.now c.fork_end.new.pool c.args.self.now c.args.d.now c.fork_end.new.d c.args.k.seat c.requires.hv c.fork_end.ensures.same c.fork_end.ensures.others c.requires.apart c.requires.child c.commit_row.new.pool c.commit_row.ensures.moves.others c.fork_end.ensures.stands
 

@@ -1,0 +1,10 @@
+pub mod Taken
+pub mod Kept
+pub mod Pairs
+pub mod Forked
+pub mod Moved
+pub mod Bearing
+pub mod Born
+pub mod Colours
+pub mod Commits
+pub mod Lacking

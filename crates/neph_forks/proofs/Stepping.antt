@@ -1,0 +1,107 @@
+-- A page step: what it takes out of the two places, and what it puts back.
+use Rattle.std.proofs.Common.{◌≡◌, ◌≢◌, ℕ, ◌+◌, ◌-◌, ◌^◌, Bool, min, Some, Vec, Global, refl, sym, ap, subst, ◌∙◌}
+use Rattle.std.specs.Prelude.{slice_get}
+use Rattle.std.specs.Vec.{with_item}
+use Rattle.std.proofs.lemmas.List.{get_or-set_other}
+use Rattle.neph_base.specs.declared.reply.Actor.TheVariants.{Dom}
+use Rattle.neph_model.specs.Machine.{guest_at}
+use Rattle.neph_model.specs.Books.{State}
+use Rattle.neph_model.specs.Turns.{turn}
+use Rattle.neph_pool.specs.Names.{both_names}
+use Rattle.neph_pool.specs.World.{World, Spares}
+use Rattle.neph_gmap.specs.GuestPages.{GuestPages}
+use Rattle.neph_memory.specs.declared.dom_local.DomLocal.{DomLocal}
+use Rattle.neph_memory.specs.Domains.{IsStanding}
+use Rattle.neph_local.specs.declared.forking.Fork.{Fork}
+use Rattle.neph_local.specs.Forks.{IsForkInHand, NoPageLeft}
+use Rattle.neph_guest.specs.declared.live.Live.{Live}
+use Rattle.neph_guest.specs.declared.live.Stage.TheVariants.{Forking}
+use Rattle.neph_machine.specs.declared.place.Place.{Place}
+use Rattle.neph_machine.specs.declared.place.Place.TheVariants.{Empty, Flight as InFlight, Domain}
+use Rattle.neph_machine.specs.declared.place.Flight.{Flight}
+use Rattle.neph_machine.specs.declared.machine.Machine.{Machine}
+use Rattle.neph_machine.specs.declared.turn.Turn.TheVariants.{Moved}
+use Rattle.neph_machine.specs.Places.{place_at}
+use Rattle.neph_machine.specs.StandsFor.{StandsFor}
+use Rattle.neph_machine.specs.Stages.{IsAt, IsForked}
+use Rattle.neph_machine.specs.Turned.{Took}
+use Rattle.neph_machine.proofs.Reached.{IsReached}
+use Rattle.neph_forks.proofs.Begun as begun
+use Rattle.neph_forks.proofs.Putting.{PutInto, items_put, put_back}
+use Rattle.neph_forks.proofs.TwoPlaces.{ForkMoved}
+use Rattle.neph_forks.proofs.PageSteps.{SharedPage, step_took}
+
+same_live : {Pool Seat : Type 0} (l k : Live Pool Seat) → Domain l ≡ Domain k → l ≡ k
+same_live l k e = cc
+
+module _ {Pool Seat : Type 0} (W : World Pool Seat) (old : Machine Pool Seat) (st : State) (reached : IsReached old.script st) (stands : StandsFor W old st) (id child : ℕ) (at : IsAt old id Forking)
+    (known : slice_get (guest_at id old.hv.registry.tables).begun 0 ≡ Some child) (l : Live Pool Seat) (met : Domain l ≡ place_at id old.places.items) where
+  here : place_at id old.places.items ≡ Domain l
+  here = sym met
+
+  forking : l.guest.stage ≡ Forking
+  forking = ap (λ (v : Live Pool Seat). v.guest.stage) (same_live l at.live (met ∙ at.here)) ∙ at.at
+
+  has : begun.HasChild old st id child
+  has = begun.has_child W old st stands id child l here forking known
+
+  far : child ≢ id
+  far = begun.far W old st stands id child l here reached has.begun
+
+  pub standing : IsStanding W old.pool l.local
+  standing = (begun.domain W old st stands id child l here).stands
+
+  -- beside the place of the domain, which was emptied, f stands in the place of the child
+  module _ (f : Flight Pool Seat) (one : Vec (Place Pool Seat) Global) (emptied : one ≡ with_item old.places id Empty) (beside : InFlight f ≡ place_at child one.items) where
+    flies : place_at child old.places.items ≡ InFlight f
+    flies = sym (get_or-set_other old.places.items id child Empty Empty far) ∙ ap (λ (v : Vec (Place Pool Seat) Global). place_at child v.items) (sym emptied) ∙ sym beside
+
+    parent : f.parent ≡ id
+    parent = begun.parent_is W old st stands id child l here f flies has
+
+    pub in_hand : IsForkInHand W old.pool l.local f.fork
+    in_hand = begun.fork_is W old st stands id child l here f flies parent
+
+    -- the domain was put back with the memory d, and the child with the fork g
+    module _ (q : Pool) (d : DomLocal Pool Seat) (g : Fork Pool Seat) (places : Vec (Place Pool Seat) Global) (put : PutInto old.places places id child (Domain (record l { local = d })) (InFlight (record f { fork = g })) Empty) where
+      abbrev new : Machine Pool Seat
+      new = record old { pool = q; places = places }
+
+      abbrev k : Live Pool Seat
+      k = record l { local = d }
+
+      abbrev h : Flight Pool Seat
+      h = record f { fork = g }
+
+      pub took : Spares W (both_names (W.names l.local.seat) (W.names f.fork.seat)) old.pool q → SharedPage W old.pool l.local f.fork q d g → W.shares q ≡ min (W.shares old.pool + 1) (2 ^ 64 - 1) → Took W old (record old { pool = q; places = places }) (turn old.script st (Dom id)) Moved
+      took others page shares = step_took W old new id child l k f h moved page refl refl forking st stands old.script reached shares where
+        moved : ForkMoved W old new id child l k f h
+        moved = record {
+          within = begun.within W old st stands id child l here reached has.begun;
+          below = begun.below W old st stands id child l here reached has.begun;
+          far = far;
+          here = here;
+          flies = flies;
+          parent = parent;
+          places = items_put old.places places id child (Domain k) (InFlight h) Empty put far;
+          script = refl;
+          hv = refl;
+          spares = subst (λ (ns : ℕ → Bool). Spares W ns old.pool q) (begun.names_are W old st stands id child l here f flies parent) others;
+          pages = ap (λ (m : GuestPages). m.pages) page.map;
+        }
+
+      -- where both are as they were, the machine is
+      pub unmoved : (g ≡ f.fork) × (d ≡ l.local) × (q ≡ old.pool) → record old { pool = q; places = places } ≡ old
+      unmoved same = ap (λ (p : Pool). record old { pool = p; places = places }) same.2 ∙ ap (λ (v : Vec (Place Pool Seat) Global). record old { places = v }) back where
+        back : places ≡ old.places
+        back = put_back old.places places id child (Domain k) (InFlight h) Empty put far Empty (here ∙ ap (λ (e : DomLocal Pool Seat). Domain (record l { local = e })) (sym same.1)) (flies ∙ ap (λ (e : Fork Pool Seat). InFlight (record f { fork = e })) (sym same.0))
+
+      pub forked : (g ≡ f.fork) × (d ≡ l.local) × (q ≡ old.pool) → NoPageLeft l.local.own.map.pages f.fork.next → IsForked (record old { pool = q; places = places }) id child
+      forked same none = subst (λ (m : Machine Pool Seat). IsForked m id child) (sym (unmoved same)) (record {
+        live = l;
+        there = here;
+        flight = f;
+        flies = flies;
+        parent = parent;
+        none = none;
+      })

@@ -1,0 +1,100 @@
+-- A line that its domain can't do by itself.
+use Rattle.std.proofs.Common.{◌≡◌, ◌≢◌, ℕ, ◌/◌, ◌%◌, ◌<◌, Bool, true, false, cond, List, take, drop, length, Some, None, Ok, refl, sym, ap, ◌∙◌}
+use Rattle.std.specs.Prelude.{is_some, not}
+use Rattle.std.specs.declared.option.Option.{Option}
+use Rattle.std.specs.FinMap as fm
+use Rattle.std.specs.Option.{option_map}
+use Rattle.neph_base.specs.declared.command.Command.{Command}
+use Rattle.neph_base.specs.declared.command.Command.TheVariants as command
+use Rattle.neph_base.specs.declared.command.Mode.TheVariants.{Rw}
+use Rattle.neph_base.specs.declared.reply.Reply.TheVariants as reply
+use Rattle.neph_model.specs.declared.own.Own.{Own}
+use Rattle.neph_model.specs.declared.script.Script.{Script}
+use Rattle.neph_model.specs.declared.memory.Mapping.{Mapping}
+use Rattle.neph_model.specs.declared.book.Book.{Book}
+use Rattle.neph_model.specs.declared.book.Move.TheVariants.{Copies, Does}
+use Rattle.neph_model.specs.declared.book.Spends.TheVariants.{Nothing}
+use Rattle.neph_model.specs.declared.told.Told.TheVariants.{Enough}
+use Rattle.neph_model.specs.Own.{LocalResult, page_of, mapping_at, is_bad_pfn, has_leaf, w_step, r_step, settle, local_step}
+use Rattle.neph_model.specs.Lent.{lent, nothing_lent}
+use Rattle.neph_model.specs.Machine.{Exposed}
+use Rattle.neph_model.specs.Trap.{is_exposed}
+use Rattle.neph_model.specs.Books.{Books, State}
+use Rattle.neph_model.specs.Turns.{ready_move}
+use Rattle.neph_runs.specs.Orderly.{seat as part_at}
+use Rattle.neph_rows.specs.Row.{MeetsExposed, MayBeAsked}
+use Rattle.neph_machine.proofs.Reached.{IsReached, live_sound}
+use Rattle.neph_lines.specs.Lines.{told_of}
+use Rattle.neph_lines.proofs.Alone.{at_some}
+use Rattle.neph_lines.proofs.InHand.{w_enough}
+use Rattle.neph_lines.proofs.Doing.{not_copied}
+
+unsettled : (o : Own) (x : LocalResult) → option_map (settle o) x ≡ None → x ≡ None
+unsettled o None e = refl
+unsettled o (Some r) e = absurd (cc)
+
+-- a `map` is done or refused
+map_tried : {X : Type 0} (x y : Bool) (a b c : X) → cond x (Some a) (cond y (Some b) (Some c)) ≡ None → ⊥
+map_tried true y a b c e = cc
+map_tried false true a b c e = cc
+map_tried false false a b c e = cc
+
+-- a write that has to be asked finds no page of the domain's own to write to
+no_write : (o : Own) (at : ℕ) (bytes : List ℕ) (to : Option Mapping) → w_step o Enough at bytes to ≡ None → (pfn : ℕ) → to ≡ Some (record { pfn = pfn; mode = Rw }) → is_some (page_of o pfn) ≡ true → ⊥
+no_write o at bytes to e pfn maps some = by (page_of o pfn) refl some where
+  by : (page : Option (List ℕ)) → page_of o pfn ≡ page → is_some page ≡ true → ⊥
+  by None is s = cc
+  by (Some page) is s = let z = sym (w_enough o at bytes to pfn page maps is) ∙ e in cc
+
+-- so the move is a call
+pub asked_move : (s : Script) (p free : ℕ) (bs : Books) (o : Own) (b : Book) (c : Command) → c ≢ command.Clone → local_step s p o Enough c ≡ None → ready_move free bs o b c ≡ Does (told_of free c) Nothing
+asked_move s p free bs o b (command.W addr bytes) far e =
+    ap (λ (x : Option ℕ). cond (is_some x) Copies (Does Enough Nothing)) (not_copied bs o b (mapping_at o addr) (λ pfn maps some. absurd (no_write o (addr % 4096) bytes (mapping_at o addr) (unsettled o (w_step o Enough (addr % 4096) bytes (mapping_at o addr)) e) pfn maps some)))
+asked_move s p free bs o b (command.R addr len) far e = refl
+asked_move s p free bs o b (command.Map vpn pfn mode) far e = absurd (map_tried (is_bad_pfn o pfn mode) (has_leaf o vpn) _ _ _ (unsettled o _ e))
+asked_move s p free bs o b (command.Unmap vpn) far e = refl
+asked_move s p free bs o b (command.Jump label) far e = refl
+asked_move s p free bs o b (command.JChild label) far e = refl
+asked_move s p free bs o b (command.JFail label) far e = refl
+asked_move s p free bs o b command.Exit far e = refl
+asked_move s p free bs o b command.Free far e = refl
+asked_move s p free bs o b command.Clone far e = absurd (far refl)
+
+-- nor can it be done by itself, told what it is told
+pub asked_told : (s : Script) (p free : ℕ) (o : Own) (c : Command) → local_step s p o Enough c ≡ None → local_step s p o (told_of free c) c ≡ None
+asked_told s p free o command.Free e = refl
+asked_told s p free o _ e = e
+
+read_none : (o : Own) (at n : ℕ) (to : Mapping) (page : Option (List ℕ)) → page_of o to.pfn ≡ page → r_step o at n (Some to) ≡ None → page ≡ None
+read_none o at n to None is e = refl
+read_none o at n to (Some page) is e = let z : by (Some page) ≡ None = sym (ap by is) ∙ e in absurd (cc) where
+  by : Option (List ℕ) → LocalResult
+  by None = None
+  by (Some bytes) = Some (Ok (o, reply.Bytes (take n (drop at bytes))))
+
+exposed_not : (b : Bool) → false ≡ not b → b ≡ true
+exposed_not true e = refl
+exposed_not false e = absurd (cc)
+
+-- a read that has to be asked is one of an exposed page
+pub asked_meets : (s : Script) (p : ℕ) (o : Own) (c : Command) (pages : List Exposed) (id : ℕ) → ((v : ℕ) (to : Mapping) → fm.get o.vmap v ≡ Some to → page_of o to.pfn ≡ None → is_exposed pages id to.pfn ≡ true)
+    → (free : ℕ) → local_step s p o (told_of free c) c ≡ None → MayBeAsked pages id (lent o c).met c
+asked_meets s p o (command.R addr len) pages id shown free e = by (mapping_at o addr) refl (unsettled o (r_step o (addr % 4096) len (mapping_at o addr)) e) where
+  by : (m : Option Mapping) → mapping_at o addr ≡ m → r_step o (addr % 4096) len m ≡ None → MeetsExposed pages id m
+  by None at k = absurd (cc)
+  by (Some to) at k = shown (addr / 4096) to at (read_none o (addr % 4096) len to (page_of o to.pfn) refl k)
+asked_meets s p o _ pages id shown free e = tt
+
+-- what is lent to a command that is no clone is what its address maps to
+pub lent_met : (o : Own) (c : Command) → c ≢ command.Clone → (m : Option Mapping) → (lent o c).met ≡ m → lent o c ≡ record nothing_lent { met = m }
+lent_met o (command.W addr bytes) far m e = ap (λ (v : Option Mapping). record nothing_lent { met = v }) e
+lent_met o (command.R addr len) far m e = ap (λ (v : Option Mapping). record nothing_lent { met = v }) e
+lent_met o command.Clone far m e = absurd (far refl)
+lent_met o _ far m e = ap (λ (v : Option Mapping). record nothing_lent { met = v }) e
+
+-- a page that a live domain maps and that isn't its own is exposed
+pub shown_is : (s : Script) (st : State) → IsReached s st → (id : ℕ) → is_some (part_at st id).life ≡ true → (v : ℕ) (to : Mapping) → fm.get (part_at st id).own.vmap v ≡ Some to → page_of (part_at st id).own to.pfn ≡ None → is_exposed st.machine.shared.pages id to.pfn ≡ true
+shown_is s st reached id live v to at none =
+    let h = (live_sound s st reached id live).halves in
+    let lt = at_some (fm.get (part_at st id).own.vmap v) (λ (x : Mapping). x.pfn < length (part_at st id).own.pages) to at (h.maps v) in
+    exposed_not _ (sym (ap is_some none) ∙ h.apart to.pfn lt)

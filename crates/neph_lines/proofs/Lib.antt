@@ -1,0 +1,14 @@
+pub mod LineTurns
+pub mod Sparing
+pub mod NoFrame
+pub mod Alone
+pub mod InHand
+pub mod Copied
+pub mod CopyTurns
+pub mod Exits
+pub mod ReadyLines
+pub mod Mapping
+pub mod Doing
+pub mod Asking
+pub mod Called
+pub mod Midway

@@ -1,0 +1,4 @@
+pub mod Resting
+pub mod Work
+pub mod Tabling
+pub mod Counted
