@@ -22,9 +22,13 @@ use Rattle.neph_model.specs.Run.{Ran, rounds, first_turns}
 use Rattle.neph_runs.specs.Orderly.{IsOrderly}
 use Rattle.neph_runs.specs.Work.{work_left}
 use Rattle.neph_runs.proofs.CallerLemmas.{turns_less, turns_same}
-use Rattle.neph_core.specs.Course.{Course, IsSound}
-use Rattle.neph_core.specs.Does.{Does}
+use Rattle.neph_core.specs.Course.{Course}
+use Rattle.neph_core.specs.Does.{counted, Does}
 use Rattle.neph_core.specs.Plays.{Plays}
+
+-- counts that each go on by some from the one before
+counted_more : (a m b n c : ℕ) → counted b ≡ counted (a + m) → counted c ≡ counted (b + n) → counted c ≡ counted (a + (m + n))
+counted_more a m b n c e h = omega (arith, e, h)
 
 -- what the turns of some first actors did, before those of the rest
 pub record SoFar (first : Course) (actors : List Actor) (now : Course) (moved : Bool) (rest : List Actor) : Type 0 where
@@ -32,6 +36,7 @@ pub record SoFar (first : Course) (actors : List Actor) (now : Course) (moved : 
   pub noted : List Noted
   pub steps : ℕ
   pub history : now.history ≡ first.history ++ noted
+  pub shares : counted now.shares ≡ counted (first.shares + steps)
   pub whole : before (record { state = now.state; moved = moved; noted = noted; steps = steps }) (turns first.script now.state rest) ≡ turns first.script first.state actors
 
 before_assoc : (a b c : Done) → before (before a b) c ≡ before a (before b c)
@@ -52,7 +57,7 @@ pub at_start : (first : Course) (actors : List Actor) → SoFar first actors fir
 at_start first actors =
     let d = turns first.script first.state actors in
     let none : 0 + d.steps ≡ d.steps = omega arith in
-    record { script = refl; noted = []; steps = 0; history = sym (append-nil first.history); whole = ap (λ (n : ℕ). record d { steps = n }) none }
+    record { script = refl; noted = []; steps = 0; history = sym (append-nil first.history); shares = ap counted (omega arith); whole = ap (λ (n : ℕ). record d { steps = n }) none }
 
 ends : (first : Course) (actors : List Actor) (now : Course) (moved : Bool) (rest : List Actor) → SoFar first actors now moved rest → turns first.script now.state rest ≡ nothing now.state
     → Does first now (turns first.script first.state actors) moved
@@ -63,6 +68,7 @@ ends first actors now moved rest so_far idle =
       script = so_far.script;
       state = ap (λ (d : Done). d.state) whole;
       told = sym (or_false moved) ∙ ap (λ (d : Done). d.moved) whole;
+      shares = (let n : so_far.steps ≡ so_far.steps + 0 = omega arith in so_far.shares ∙ ap (λ (k : ℕ). counted (first.shares + k)) (n ∙ ap (λ (d : Done). d.steps) whole));
       history = so_far.history ∙ ap (λ (xs : List Noted). first.history ++ xs) (sym (append-nil so_far.noted) ∙ ap (λ (d : Done). d.noted) whole);
     }
 
@@ -97,41 +103,47 @@ one_more first actors now next moved did n actor lt is live so_far step =
       steps = so_far.steps + one.steps;
       history = step.history ∙ ap (λ (d : Done). now.history ++ d.noted) same ∙ ap (λ (xs : List Noted). xs ++ one.noted) so_far.history
           ∙ append_assoc first.history so_far.noted one.noted;
+      shares = counted_more first.shares so_far.steps now.shares one.steps next.shares so_far.shares (step.shares ∙ ap (λ (d : Done). counted (now.shares + d.steps)) same);
       whole = rw (state, told) joined;
     }
 
--- a turn that did nothing makes no entry
-idle_move : (s : Script) (st : State) (id : ℕ) (mv : Move) → (move_turn s st id mv).moved ≡ false → (move_turn s st id mv).noted ≡ []
-idle_move s st id Rests e = refl
+-- a turn that did nothing makes no entry and no page step
+abbrev IsIdle : Done → Type 0
+IsIdle d = (d.noted ≡ []) × (d.steps ≡ 0)
+
+idle_move : (s : Script) (st : State) (id : ℕ) (mv : Move) → (move_turn s st id mv).moved ≡ false → IsIdle (move_turn s st id mv)
+idle_move s st id Rests e = (refl, refl)
 idle_move s st id StepsPage e = absurd cc
 idle_move s st id Commits e = absurd cc
 idle_move s st id Copies e = absurd cc
 idle_move s st id TakesSpare e = absurd cc
 idle_move s st id (DoesLine told spends) e = absurd cc
 
-idle_domain : (s : Script) (st : State) (id : ℕ) (b : Bool) → (cond b (move_turn s st id (next_move s st id)) (nothing st)).moved ≡ false → (cond b (move_turn s st id (next_move s st id)) (nothing st)).noted ≡ []
+idle_domain : (s : Script) (st : State) (id : ℕ) (b : Bool) → (cond b (move_turn s st id (next_move s st id)) (nothing st)).moved ≡ false → IsIdle (cond b (move_turn s st id (next_move s st id)) (nothing st))
 idle_domain s st id true e = idle_move s st id (next_move s st id) e
-idle_domain s st id false e = refl
+idle_domain s st id false e = (refl, refl)
 
-idle_entry : (s : Script) (st : State) (x : Entry) (b : Bool) → (cond b (noting x (step s st.machine x Enough) st.books) (nothing st)).moved ≡ false → (cond b (noting x (step s st.machine x Enough) st.books) (nothing st)).noted ≡ []
+idle_entry : (s : Script) (st : State) (x : Entry) (b : Bool) → (cond b (noting x (step s st.machine x Enough) st.books) (nothing st)).moved ≡ false → IsIdle (cond b (noting x (step s st.machine x Enough) st.books) (nothing st))
 idle_entry s st x true e = absurd cc
-idle_entry s st x false e = refl
+idle_entry s st x false e = (refl, refl)
 
-idle_turn : (s : Script) (st : State) (a : Actor) → (turn s st a).moved ≡ false → (turn s st a).noted ≡ []
+idle_turn : (s : Script) (st : State) (a : Actor) → (turn s st a).moved ≡ false → IsIdle (turn s st a)
 idle_turn s st (actor.Dom id) e = idle_domain s st id (is_live id st.machine.shared.lives) e
 idle_turn s st actor.Daemon e = idle_entry s st entry.Daemon (is_due s st.machine entry.Daemon) e
-idle_turn s st actor.Console e = refl
-idle_turn s st actor.Net e = refl
-idle_turn s st actor.P9 e = refl
+idle_turn s st actor.Console e = (refl, refl)
+idle_turn s st actor.Net e = (refl, refl)
+idle_turn s st actor.P9 e = (refl, refl)
 
-idle_before : (st : State) (over : Bool) (a b : Done) → (a.moved ≡ false → a.noted ≡ []) → (b.moved ≡ false → b.noted ≡ []) → (cond over (nothing st) (before a b)).moved ≡ false → (cond over (nothing st) (before a b)).noted ≡ []
-idle_before st true a b f g e = refl
+idle_before : (st : State) (over : Bool) (a b : Done) → (a.moved ≡ false → IsIdle a) → (b.moved ≡ false → IsIdle b) → (cond over (nothing st) (before a b)).moved ≡ false → IsIdle (cond over (nothing st) (before a b))
+idle_before st true a b f g e = (refl, refl)
 idle_before st false a b f g e =
     let both = or_parts a.moved b.moved e in
-    ap (λ (xs : List Noted). xs ++ b.noted) (f both.0) ∙ g both.1
+    let first = f both.0 in
+    let later = g both.1 in
+    (ap (λ (xs : List Noted). xs ++ b.noted) first.0 ∙ later.0, omega (arith, first.1, later.1))
 
-idle_turns : (s : Script) (st : State) (actors : List Actor) → (turns s st actors).moved ≡ false → (turns s st actors).noted ≡ []
-idle_turns s st [] e = refl
+idle_turns : (s : Script) (st : State) (actors : List Actor) → (turns s st actors).moved ≡ false → IsIdle (turns s st actors)
+idle_turns s st [] e = (refl, refl)
 idle_turns s st (a ∷ rest) e =
     let one = turn s st a in idle_before st (is_over st.machine) one (turns s one.state rest) (idle_turn s st a) (idle_turns s one.state rest) e
 
@@ -140,24 +152,24 @@ pub record Reached (s : Script) (now : Course) : Type 0 where
   pub script : now.script ≡ s
   pub count : ℕ
   pub steps : ℕ
+  pub shares : counted now.shares ≡ counted steps
   pub on : (n : ℕ) → rounds (count + n) s (first_turns s).state (first_turns s).noted (first_turns s).steps ≡ rounds n s now.state now.history steps
 
-pub at_first : (s : Script) (start now : Course) (moved : Bool) → start.script ≡ s → start.state ≡ start_state s → start.history ≡ [] → Does start now (turns start.script start.state s.turns) moved → Reached s now
-at_first s start now moved script state history step =
+pub at_first : (s : Script) (start now : Course) (moved : Bool) → start.script ≡ s → start.state ≡ start_state s → start.history ≡ [] → start.shares ≡ 0 → Does start now (turns start.script start.state s.turns) moved → Reached s now
+at_first s start now moved script state history none step =
     let same : turns start.script start.state s.turns ≡ first_turns s = ap (λ (x : Script). turns x start.state s.turns) script ∙ ap (λ (x : State). turns s x s.turns) state in
     let noted : now.history ≡ (first_turns s).noted =
     step.history ∙ ap (λ (xs : List Noted). xs ++ (turns start.script start.state s.turns).noted) history ∙ ap (λ (d : Done). d.noted) same in
     let here : now.state ≡ (first_turns s).state = step.state ∙ ap (λ (d : Done). d.state) same in
-    record { script = step.script ∙ script; count = 0; steps = (first_turns s).steps; on = λ n. let k : 0 + n ≡ n = omega arith in rw (k, here, noted) refl }
+    let shares : counted now.shares ≡ counted (first_turns s).steps =
+    step.shares ∙ ap (λ (d : Done). counted (start.shares + d.steps)) same ∙ ap counted (omega (arith, none)) in
+    record { script = step.script ∙ script; count = 0; steps = (first_turns s).steps; shares = shares; on = λ n. let k : 0 + n ≡ n = omega arith in rw (k, here, noted) refl }
 
 -- the state before a round: one that a machine can be in, with a live domain
 pub record IsGoing (s : Script) (now : Course) : Type 0 where
   pub formed : IsWellFormed s
   pub orderly : IsOrderly now.state
   pub live : is_over now.state.machine ≡ false
-
-pub going : (s : Script) (now : Course) → IsWellFormed s → IsSound now → is_over now.state.machine ≡ false → IsGoing s now
-going s now formed sound live = record { formed = formed; orderly = sound.orderly; live = live }
 
 module _ (s : Script) (now next : Course) (moved : Bool) (so_far : Reached s now) (goes_on : IsGoing s now) (did : Does now next (turns now.script now.state round) moved) where
   abbrev this_round : Done
@@ -172,6 +184,9 @@ module _ (s : Script) (now next : Course) (moved : Bool) (so_far : Reached s now
   noted : next.history ≡ now.history ++ this_round.noted
   noted = did.history ∙ ap (λ (d : Done). now.history ++ d.noted) same
 
+  shared : counted next.shares ≡ counted (now.shares + this_round.steps)
+  shared = did.shares ∙ ap (λ (d : Done). counted (now.shares + d.steps)) same
+
   told : moved ≡ this_round.moved
   told = did.told ∙ ap (λ (d : Done). d.moved) same
 
@@ -181,6 +196,7 @@ module _ (s : Script) (now next : Course) (moved : Bool) (so_far : Reached s now
         script = did.script ∙ so_far.script;
         count = so_far.count + 1;
         steps = so_far.steps + this_round.steps;
+        shares = counted_more 0 so_far.steps now.shares this_round.steps next.shares (so_far.shares ∙ ap counted (omega arith)) shared ∙ ap counted (omega arith);
         on = λ n.
             let k : so_far.count + 1 + n ≡ so_far.count + suc n = omega arith in
             let goes : this_round.moved ≡ true = sym told ∙ goes_round in
@@ -195,16 +211,17 @@ module _ (s : Script) (now next : Course) (moved : Bool) (so_far : Reached s now
   at_stall rests =
       let idle : this_round.moved ≡ false = sym told ∙ rests in
       let stays : next.state ≡ now.state = state ∙ turns_same s goes_on.formed now.state round goes_on.orderly idle in
-      let quiet : next.history ≡ now.history = noted ∙ ap (λ (xs : List Noted). now.history ++ xs) (idle_turns s now.state round idle) ∙ append-nil now.history in
+      let none = idle_turns s now.state round idle in
+      let quiet : next.history ≡ now.history = noted ∙ ap (λ (xs : List Noted). now.history ++ xs) none.0 ∙ append-nil now.history in
       let r : Ran = record { last = now.state; stalled = true; history = now.history; steps = so_far.steps } in
       let last : rounds 1 s now.state now.history so_far.steps ≡ Some r = rw (goes_on.live, idle) refl in
-      record { ran = r; run = record { count = so_far.count + 1; ends = so_far.on 1 ∙ last }; ended = refl; script = did.script ∙ so_far.script; last = sym stays; entries = sym quiet }
+      record { ran = r; run = record { count = so_far.count + 1; ends = so_far.on 1 ∙ last }; ended = refl; script = did.script ∙ so_far.script; last = sym stays; entries = sym quiet; steps = shared ∙ ap counted (omega (arith, none.1)) ∙ so_far.shares }
 
 pub at_end : (s : Script) (now : Course) → Reached s now → is_over now.state.machine ≡ true → Plays s now false
 at_end s now so_far over =
     let r : Ran = record { last = now.state; stalled = false; history = now.history; steps = so_far.steps } in
     let last : rounds 1 s now.state now.history so_far.steps ≡ Some r = rw over refl in
-    record { ran = r; run = record { count = so_far.count + 1; ends = so_far.on 1 ∙ last }; ended = refl; script = so_far.script; last = refl; entries = refl }
+    record { ran = r; run = record { count = so_far.count + 1; ends = so_far.on 1 ∙ last }; ended = refl; script = so_far.script; last = refl; entries = refl; steps = so_far.shares }
 
 -- one more domain of a round
 pub doms_more : (xs : List Actor) (n id : ℕ) → 1 ≤ n → id ≡ n → xs ≡ map (λ x. actor.Dom x) (range_with_len 1 (n - 1)) → xs ++ actor.Dom id ∷ [] ≡ map (λ x. actor.Dom x) (range_with_len 1 (n + 1 - 1))

@@ -1,18 +1,38 @@
 -- A run in its course.
-use Rattle.std.specs.Prelude.{List}
+use Rattle.std.specs.Prelude.{ℕ, List, [], ◌≡◌}
+use Rattle.neph_base.specs.declared.reply.Actor.{Actor}
 use Rattle.neph_base.specs.declared.reply.Noted.{Noted}
 use Rattle.neph_model.specs.declared.script.Script.{Script}
-use Rattle.neph_model.specs.WellFormed.{IsWellFormed}
 use Rattle.neph_model.specs.Books.{State}
-use Rattle.neph_runs.specs.Orderly.{IsOrderly}
+use Rattle.neph_pool.specs.Plain.{plain_world}
+use Rattle.neph_machine.specs.Reached.{state_after}
+use Rattle.neph_machine.specs.StandsFor.{StandsFor}
+use Rattle.neph_core.specs.declared.machine.Machine.{Machine}
 
--- the script, the state that its turns have come to, and the entries that they have made
+-- the script, the state that its turns have come to, the entries that they have made, and how often
+-- a frame was shared in them
 pub record Course : Type 0 where
   pub script : Script
   pub state : State
   pub history : List Noted
+  pub shares : ℕ
 
--- a course of a script that is well formed, in a state that is in order
-pub record IsSound (c : Course) : Type 0 where
-  pub formed : IsWellFormed c.script
-  pub orderly : IsOrderly c.state
+-- the machine stands for the state after the turns of these actors, the latest of whom stands first
+abbrev pub Stands : Machine → List Actor → Type 0
+Stands m before = StandsFor plain_world m.frames (state_after m.frames.script before)
+
+-- its course then
+abbrev pub course : Machine → List Actor → Course
+course m before = record {
+  script = m.frames.script;
+  state = state_after m.frames.script before;
+  history = m.history.items;
+  shares = plain_world.shares m.frames.pool;
+}
+
+-- the machine stands for the start of a script, with no entry, and has shared no frame
+pub record Starts (s : Script) (m : Machine) : Type 0 where
+  pub script : m.frames.script ≡ s
+  pub stands : Stands m []
+  pub history : m.history.items ≡ []
+  pub shares : plain_world.shares m.frames.pool ≡ 0

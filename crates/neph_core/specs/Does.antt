@@ -1,46 +1,38 @@
 -- What code that takes turns has done, by the definitions.
-use Rattle.std.specs.Prelude.{◌≡◌, ◌++◌, ℕ, Bool, true, Result, Ok, Err, ⊤}
-use Rattle.neph_base.specs.declared.reply.Entry.TheVariants.{Line, Commit}
+use Rattle.std.specs.Prelude.{◌≡◌, ◌+◌, ◌-◌, ◌^◌, ◌++◌, ℕ, min, Bool, List, Result, Ok, Err}
 use Rattle.neph_base.specs.declared.memory.NoMemory.{NoMemory}
-use Rattle.neph_base.specs.declared.reply.Reply.{Reply}
-use Rattle.neph_base.specs.declared.reply.Reply.TheVariants.{Begun}
-use Rattle.neph_model.specs.declared.book.Book.{Book}
-use Rattle.neph_model.specs.declared.book.Move.{Move}
-use Rattle.neph_model.specs.declared.book.Move.TheVariants.{Commits, Does as DoesLine}
-use Rattle.neph_model.specs.declared.script.Script.{Script}
-use Rattle.neph_model.specs.declared.own.Own.{Own}
-use Rattle.neph_model.specs.Machine.{Machine, own_at, is_live}
-use Rattle.neph_model.specs.Books.{shared_count}
-use Rattle.neph_model.specs.Step.{is_due}
+use Rattle.neph_base.specs.declared.reply.Actor.{Actor}
 use Rattle.neph_model.specs.Turns.{Done}
-use Rattle.neph_book.specs.Kept.{IsThere}
-use Rattle.neph_core.specs.Course.{Course}
+use Rattle.neph_core.specs.declared.machine.Machine.{Machine}
+use Rattle.neph_core.specs.Course.{Course, Stands, course}
 
--- turns that did this took one course to another, and told whether one of them moved anything
+-- as many, as far as 64 bits count
+abbrev pub counted : ℕ → ℕ
+counted n = min n (2 ^ 64 - 1)
+
+-- turns that did this took one course to another, and told whether one of them moved anything; they
+-- shared a frame for each page step
 pub record Does (old new : Course) (done : Done) (moved : Bool) : Type 0 where
   pub script : new.script ≡ old.script
   pub state : new.state ≡ done.state
   pub history : new.history ≡ old.history ++ done.noted
+  pub shares : counted new.shares ≡ counted (old.shares + done.steps)
   pub told : moved ≡ done.moved
 
--- a turn did this, unless memory ran out, which changed nothing
-abbrev pub DoesOrLacks : Course → Course → Done → Result Bool NoMemory → Type 0
-DoesOrLacks old new done (Ok moved) = Does old new done moved
-DoesOrLacks old new done (Err lacks) = new ≡ old
+-- turns that did this took a machine that stood for the state after the turns of these actors to
+-- one that stands for the state after more
+pub record Goes (old new : Machine) (before : List Actor) (done : Done) (moved : Bool)
+    : Type 0 where
+  pub after : List Actor
+  pub stands : Stands new after
+  pub does : Does (course old before) (course new after) done moved
 
--- a page that is to be copied is there
-abbrev pub CanMove : Move → Book → Type 0
-CanMove (DoesLine told spends) b = IsThere spends b
-CanMove _ b = ⊤
+-- memory ran out: the machine still stands for that state, with the same entries
+pub record Lacks (old new : Machine) (before : List Actor) : Type 0 where
+  pub stands : Stands new before
+  pub same : course new before ≡ course old before
 
--- the entry of a move at this line is due
-abbrev pub IsDueFor : Script → Machine → ℕ → ℕ → Move → Type 0
-IsDueFor s m id line Commits = is_due s m (Commit id line) ≡ true
-IsDueFor s m id line (DoesLine told spends) = is_due s m (Line id line) ≡ true
-IsDueFor s m id line _ = ⊤
-
--- where a clone was begun, its domain is live and shares as many pages as with this own half
-abbrev pub SharesAs : Machine → ℕ → Own → Reply → Type 0
-SharesAs m id o (Begun child) =
-    (is_live id m.shared.lives ≡ true) × (shared_count (own_at id m.own) ≡ shared_count o)
-SharesAs m id o _ = ⊤
+-- a turn did this, unless memory ran out
+abbrev pub GoesOrLacks : Machine → Machine → List Actor → Done → Result Bool NoMemory → Type 0
+GoesOrLacks old new before done (Ok moved) = Goes old new before done moved
+GoesOrLacks old new before done (Err lacks) = Lacks old new before

@@ -1,4 +1,3 @@
 pub mod Course
 pub mod Does
 pub mod Plays
-pub mod Kept

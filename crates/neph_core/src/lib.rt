@@ -1,11 +1,9 @@
-//! The run of a script by turns, on the plain machine and the books of its domains.
+//! The run of a script by turns, on the machine over counted frames.
 #![tactic(auto)]
 
-mod entries;
 mod machine;
-mod moves;
-mod parts;
 mod rounds;
 
 pub use machine::Machine;
+pub use neph_pool::Tally;
 pub use rounds::{Played, play};

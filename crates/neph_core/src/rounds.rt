@@ -1,9 +1,13 @@
 // The run of a script by turns, to its end.
-ghost use Rattle.std.specs.Prelude.{◌≡◌, ◌<◌, IfOk};
+ghost use Rattle.std.specs.Prelude.{◌≡◌, ◌<◌, IfOk, List};
 ghost use Rattle.neph_model.specs.WellFormed.{IsWellFormed};
 ghost use Rattle.neph_model.specs.Turns.{turns, round};
-ghost use Rattle.neph_core.specs.Does.{Does};
-ghost use Rattle.neph_core.specs.Plays.{Plays};
+ghost use Rattle.neph_pool.specs.Plain.{plain_world};
+ghost use Rattle.neph_machine.specs.Reached.{state_after};
+ghost use Rattle.neph_machine.specs.Turned.{IsRunning};
+ghost use Rattle.neph_core.specs.Course.{Stands};
+ghost use Rattle.neph_core.specs.Does.{Goes};
+ghost use Rattle.neph_core.specs.Plays.{EndsRun};
 
 use crate::machine::Machine;
 use neph_base::{Actor, DomId, NoMemory};
@@ -23,13 +27,13 @@ pub struct Played {
 /// does nothing.
 pub fn play(alloc: Global, s: &Script) -> Result<Played, NoMemory>
     requires { IsWellFormed s.now }
-    ensures { IfOk result (λ p. Plays s.now p.machine p.stalled) }
+    ensures { IfOk result (λ p. EndsRun s.now p.machine p.stalled) }
 {
     let mut machine = Machine::new(alloc, s)?;
-    let _first = take_turns(&mut machine, s.turns.items())?;
+    let _first = take_turns(&mut machine, alloc, s.turns.items())?;
     let round = round_actors(alloc)?;
     'rounds: while !machine.is_over() {
-        if !take_turns(&mut machine, &round)? {
+        if !take_turns(&mut machine, alloc, &round)? {
             return Ok(Played {
                 machine,
                 stalled: true,
@@ -43,16 +47,19 @@ pub fn play(alloc: Global, s: &Script) -> Result<Played, NoMemory>
 }
 
 // The turns of these actors in order, until no domain is live. Tells whether one did anything.
-fn take_turns(machine: &mut Machine, actors: &[Actor]) -> Result<bool, NoMemory>
-    ensures { IfOk result (Does machine.old machine.new
-        (turns machine.old.script machine.old.state actors.now)) }
+fn take_turns(machine: &mut Machine, alloc: Global, actors: &[Actor]) -> Result<bool, NoMemory>
+    requires formed { IsWellFormed machine.old.frames.script }
+    requires running { IsRunning plain_world machine.old.frames }
+    ensures { IfOk result (λ moved. (before : List Actor) → Stands machine.old before
+        → Goes machine.old machine.new before (turns machine.old.frames.script
+        (state_after machine.old.frames.script before) actors.now) moved) }
 {
     let mut moved = false;
     for actor in actors {
         if machine.is_over() {
             return Ok(moved);
         }
-        moved |= machine.turn(*actor)?;
+        moved |= machine.turn(alloc, *actor)?;
     }
     Ok(moved)
 }

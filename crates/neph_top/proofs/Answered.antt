@@ -1,5 +1,5 @@
 -- What the parts of a call say together.
-use Rattle.std.proofs.Common.{◌≡◌, ℕ, Bool, List, Result, Ok, Err, sym, ap, subst, ◌∙◌, inl, inr}
+use Rattle.std.proofs.Common.{◌≡◌, ◌+◌, ℕ, arith, Bool, List, Result, Ok, Err, sym, ap, subst, ◌∙◌, inl, inr}
 use Rattle.std.specs.Io.KnownBytes.{Appends}
 use Rattle.neph_base.specs.declared.reply.Noted.{Noted}
 use Rattle.neph_model.specs.declared.script.Script.{Script}
@@ -13,6 +13,7 @@ use Rattle.neph_runs.proofs.Lasting as lasting
 use Rattle.neph_runs.proofs.Legally as legally
 use Rattle.neph_runs.proofs.Copies as copies
 use Rattle.neph_core.specs.Course.{Course}
+use Rattle.neph_core.specs.Does.{counted}
 use Rattle.neph_core.specs.Plays.{Plays}
 use Rattle.neph_script.specs.declared.why.BadScript.{BadScript}
 use Rattle.neph_script.specs.Spells.{Spells, IsFault}
@@ -20,7 +21,7 @@ use Rattle.neph_script.proofs.Inverse.{same_read}
 use Rattle.neph_script.proofs.SpellsLaws.{spelled_only}
 use Rattle.neph_top.specs.declared.status.Status.{Status}
 use Rattle.neph_top.specs.declared.status.Status.TheVariants.{Ended, Refused}
-use Rattle.neph_top.specs.Call.{run_text, Transcribes, IsTranscript, IsRefusal, refusal_text, IsAnswer, Seen, Reads, Called, FailsToWrite, NoFault, Tells}
+use Rattle.neph_top.specs.Call.{run_text, Transcribes, IsTranscript, IsRefusal, refusal_text, IsAnswer, Seen, Reads, Called, FailsToWrite, NoFault, Tells, Tallies}
 
 -- a run that was played to its end is transcribed
 pub transcribes : (s : Script) (c : Course) (stalled : Bool) (text : List ℕ) → IsWellFormed s → Plays s c stalled → text ≡ transcript s c.history (counts c.script c.state) stalled → Transcribes s text
@@ -38,8 +39,18 @@ transcribes s c stalled text formed p is =
       sum = lasting.counts_add_up s p.ran formed p.run;
     }
 
+-- as many shares raise a tally as page steps
+raised : (before shares steps : ℕ) → counted shares ≡ counted steps → counted (before + shares) ≡ counted (before + steps)
+raised before shares steps e = omega (arith, e)
+
+-- and a tally that takes its machine's shares is raised by its page steps
+pub tallies : (s : Script) (c : Course) (stalled : Bool) (text : List ℕ) (before now : ℕ) → IsWellFormed s → Plays s c stalled → text ≡ transcript s c.history (counts c.script c.state) stalled → now ≡ counted (before + c.shares)
+    → Tallies s text before now
+unfolding transcribes
+tallies s c stalled text before now formed p is ended = record { transcribed = transcribes s c stalled text formed p is; raised = ended ∙ raised before c.shares p.ran.steps p.steps }
+
 -- the transcript of the script that the bytes spell is the one text
-pub transcript_of : (bytes text : List ℕ) (s : Script) → Spells bytes s → Transcribes s text → IsTranscript bytes text
+transcript_of : (bytes text : List ℕ) (s : Script) → Spells bytes s → Transcribes s text → IsTranscript bytes text
 transcript_of bytes text s spelled t = record {
   script = s;
   spelled = spelled;
@@ -67,10 +78,13 @@ tells c text status answer (inr h) said read ok =
     let fails : FailsToWrite c = record { text = text; answer = said; front = h.1; read = read; rose = h.2 } in
     subst (Called c) (sym h.0) fails
 
--- the transcript of the bytes read was told
-pub tells_transcript : (c : Seen) (bytes text : List ℕ) (answer : Status) → Reads c bytes → IsTranscript bytes text → c.read_now ≡ c.read_before → Tells c.old c.new text c.write_before c.write_now Ended answer → Called c answer
-tells_transcript c bytes text answer all is read told =
-    tells c text Ended answer told (inl (bytes, all, inl is)) read (λ took faults. record { bytes = bytes; read = all; text = text; is = is; taken = took; faults = faults })
+-- the transcript of the script that the bytes read spell was told, and the run's page steps tallied
+pub tells_transcript : (c : Seen) (bytes text : List ℕ) (s : Script) (answer : Status) → Reads c bytes → Spells bytes s → Tallies s text c.tally_before c.tally_now → c.read_now ≡ c.read_before → Tells c.old c.new text c.write_before c.write_now Ended answer
+    → Called c answer
+unfolding transcript_of
+tells_transcript c bytes text s answer all spelled t read told =
+    let is = transcript_of bytes text s spelled t.transcribed in
+    tells c text Ended answer told (inl (bytes, all, inl is)) read (λ took faults. record { bytes = bytes; read = all; text = text; is = is; taken = took; faults = faults; raised = t.raised })
 
 -- and so was their first line that can't stand
 pub tells_refusal : (c : Seen) (bytes text : List ℕ) (answer : Status) → Reads c bytes → IsRefusal bytes text → c.read_now ≡ c.read_before → Tells c.old c.new text c.write_before c.write_now Refused answer → Called c answer

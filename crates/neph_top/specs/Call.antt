@@ -1,5 +1,5 @@
 -- What a call of the program does, by its answer.
-use Rattle.std.specs.Prelude.{◌≡◌, ◌⊎◌, ◌<◌, ◌≤◌, ◌++◌, ℕ, true, false, List, [], Option, length, codes, IfSome}
+use Rattle.std.specs.Prelude.{◌≡◌, ◌⊎◌, ◌<◌, ◌≤◌, ◌+◌, ◌-◌, ◌^◌, ◌++◌, ℕ, min, true, false, List, [], Option, length, codes, IfSome}
 use Rattle.std.specs.Io.KnownBytes.{Appends, IsAtEnd}
 use Rattle.neph_io.specs.Causes.{Rose}
 use Rattle.neph_io.specs.Streams.{AppendsFront}
@@ -72,7 +72,7 @@ abbrev pub usage_text : List ℕ
 usage_text = codes "usage: nephele run or race N or gen SEED DOMAINS LINES\n"
 
 -- what a call saw: the bytes that its source had left before and after it, those that its sink had
--- taken, and how often each had failed
+-- taken, how often each had failed, and the number of its tally
 pub record Seen : Type 0 where
   pub left : Option (List ℕ)
   pub rest : Option (List ℕ)
@@ -82,12 +82,14 @@ pub record Seen : Type 0 where
   pub read_now : ℕ
   pub write_before : ℕ
   pub write_now : ℕ
+  pub tally_before : ℕ
+  pub tally_now : ℕ
 
 -- the same by a source, of which these tell what it has left and how often it failed, before and
--- after; and by a sink, of which those tell what it took
+-- after; by a sink, of which those tell what it took; and by the tally
 abbrev pub saw : {Source Sink : Type 0} → (Source → Option (List ℕ)) → (Source → ℕ) → Source
-    → Source → (Sink → Option (List ℕ)) → (Sink → ℕ) → Sink → Sink → Seen
-saw left read_faults source source_now taken write_faults sink sink_now =
+    → Source → (Sink → Option (List ℕ)) → (Sink → ℕ) → Sink → Sink → ℕ → ℕ → Seen
+saw left read_faults source source_now taken write_faults sink sink_now tally tally_now =
     record {
       left = left source;
       rest = left source_now;
@@ -97,6 +99,8 @@ saw left read_faults source source_now taken write_faults sink sink_now =
       read_now = read_faults source_now;
       write_before = write_faults sink;
       write_now = write_faults sink_now;
+      tally_before = tally;
+      tally_now = tally_now;
     }
 
 -- neither the source nor the sink failed
@@ -116,7 +120,17 @@ pub record Reads (c : Seen) (bytes : List ℕ) : Type 0 where
   pub few : length bytes ≤ limit
   pub whole : IsAtEnd c.rest
 
--- the sink took the transcript of the run of the script that the bytes read spell
+-- a tally was raised by so many page steps; it stops at the last number of 64 bits
+abbrev pub IsRaised : ℕ → ℕ → ℕ → Type 0
+IsRaised before now steps = now ≡ min (before + steps) (2 ^ 64 - 1)
+
+-- The text is the transcript of the script's run, and a tally was raised by the run's page steps.
+pub record Tallies (s : Script) (text : List ℕ) (before now : ℕ) : Type 0 where
+  pub transcribed : Transcribes s text
+  pub raised : IsRaised before now transcribed.ran.steps
+
+-- the sink took the transcript of the run of the script that the bytes read spell, and the tally
+-- was raised by the run's page steps
 pub record WritesTranscript (c : Seen) : Type 0 where
   pub bytes : List ℕ
   pub read : Reads c bytes
@@ -124,6 +138,7 @@ pub record WritesTranscript (c : Seen) : Type 0 where
   pub is : IsTranscript bytes text
   pub taken : Appends c.old c.new text
   pub faults : NoFault c
+  pub raised : IsRaised c.tally_before c.tally_now is.transcribed.ran.steps
 
 -- the bytes read spell no script, and the sink took their first line that can't stand, with its
 -- kind
@@ -213,9 +228,9 @@ pub record FailsToTellUsage (c : Seen) : Type 0 where
   pub read : c.read_now ≡ c.read_before
   pub rose : Rose c.write_before c.write_now
 
--- the number that a call with words of no form answers
+-- the number that a call with words of no form answers: it reads nothing and raises no tally
 abbrev pub AnswersUsage : Seen → ℕ → Type 0
-AnswersUsage c answer = (c.rest ≡ c.left)
+AnswersUsage c answer = (c.rest ≡ c.left) × (c.tally_now ≡ c.tally_before)
     × (((answer ≡ 2) × WritesUsage c) ⊎ ((answer ≡ 7) × FailsToTellUsage c))
 
 -- all of a text was written, and the status is the one given; or some front of it, and the sink

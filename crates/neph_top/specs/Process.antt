@@ -2,10 +2,11 @@
 use Rattle.std.specs.Prelude.{◌≡◌, ◌≢◌, ◌⊎◌, ℕ, List, [], ◌∷◌, codes}
 use Rattle.neph_top.specs.Call.{Seen, LacksMemory, AnswersRun, AnswersUsage}
 
--- there was no memory for the words: nothing was read or written
+-- there was no memory for the words: nothing was read, written or tallied
 pub record LacksWords (c : Seen) (answer : ℕ) : Type 0 where
   pub status : answer ≡ 5
   pub unread : c.rest ≡ c.left
+  pub untallied : c.tally_now ≡ c.tally_before
   pub nothing : LacksMemory c
 
 -- The one word `run` runs the script that the source gives; other words are told the usage line,

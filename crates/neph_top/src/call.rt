@@ -1,12 +1,12 @@
 // Reading, running and writing, by the answer.
 ghost use Rattle.std.specs.Prelude.{◌≡◌, IfOk};
 ghost use Rattle.neph_model.specs.WellFormed.{IsWellFormed};
-ghost use Rattle.neph_top.specs.Call.{Called, Transcribes, Tells, refusal_text, saw};
+ghost use Rattle.neph_top.specs.Call.{Called, Tallies, Tells, refusal_text, saw};
 
 use crate::status::Status;
 use itoa::Buffer;
 use neph_base::NoMemory;
-use neph_core::play;
+use neph_core::{Tally, play};
 use neph_io::{ReadEnd, Sink, Source, WriteFault, read_all, write_all};
 use neph_model::Script;
 use neph_print::transcript;
@@ -16,10 +16,16 @@ use std::alloc::Global;
 // The most bytes of a script.
 const LIMIT: u32 = 1_048_576;
 
-/// Reads a script, runs it by turns, and writes its transcript.
-pub fn call<S: Source, K: Sink>(alloc: Global, source: &mut S, sink: &mut K) -> Status
-    ensures { Called
-        (saw S.left S.faults source.old source.new K.taken K.faults sink.old sink.new) result }
+/// Reads a script, runs it by turns, and writes its transcript. The tally is raised by the run's
+/// page steps.
+pub fn call<S: Source, K: Sink>(
+    alloc: Global,
+    source: &mut S,
+    sink: &mut K,
+    tally: &mut Tally,
+) -> Status
+    ensures { Called (saw S.left S.faults source.old source.new K.taken K.faults sink.old sink.new
+        tally.old tally.new) result }
 {
     let bytes = match read_all(alloc, source, LIMIT) {
         Ok(bytes) => bytes,
@@ -33,7 +39,7 @@ pub fn call<S: Source, K: Sink>(alloc: Global, source: &mut S, sink: &mut K) -> 
             Err(NoMemory) => Status::NoMemory,
             Ok(text) => told(sink, &text, Status::Refused),
         },
-        Ok(script) => match text_of(alloc, &script) {
+        Ok(script) => match text_of(alloc, &script, tally) {
             Err(NoMemory) => Status::NoMemory,
             Ok(text) => told(sink, &text, Status::Ended),
         },
@@ -52,20 +58,17 @@ fn refusal_text(alloc: Global, bad: BadScript) -> Result<Vec<u8>, NoMemory>
     Ok(text)
 }
 
-// The transcript of a script's run.
-fn text_of(alloc: Global, script: &Script) -> Result<Vec<u8>, NoMemory>
+// The transcript of a script's run. The tally is raised by the run's page steps.
+fn text_of(alloc: Global, script: &Script, tally: &mut Tally) -> Result<Vec<u8>, NoMemory>
     requires { IsWellFormed script.now }
-    ensures { IfOk result (λ text. Transcribes script.now text.items) }
+    ensures { IfOk result (λ text. Tallies script.now text.items tally.old tally.new) }
 {
-    let played = play(alloc, script)?;
-    let machine = &played.machine;
-    transcript(
-        alloc,
-        script,
-        machine.history(),
-        &machine.counts(),
-        played.stalled,
-    )
+    let mut played = play(alloc, script)?;
+    let counts = played.machine.counts();
+    let history = played.machine.history();
+    let text = transcript(alloc, script, history, &counts, played.stalled)?;
+    played.machine.end(tally);
+    Ok(text)
 }
 
 // Writes a text, and answers this status where the sink took all of it.

@@ -8,5 +8,6 @@ mod status;
 #[cfg(test)]
 mod tests;
 
+pub use neph_core::Tally;
 pub use process::exit_code;
 pub use run::{run_call, top};

@@ -9,6 +9,7 @@ ghost use Rattle.neph_top.specs.Process.{AnswersWords, LacksWords};
 
 use crate::run::top;
 use neph_base::NoMemory;
+use neph_core::Tally;
 use neph_io::{Sink, Source};
 use std::alloc::Global;
 use std::env::Args;
@@ -27,27 +28,31 @@ pub fn exit_code<R: Threads + Wait + Sync, S: Source, K: Sink>(
     args: io::Result<Args>,
     source: &mut S,
     sink: &mut K,
+    tally: &mut Tally,
 ) -> ExitCode
     ensures words { IfOk args (λ all. AnswersWords (map string_bytes (drop 1 (into_iter_items all)))
-        (saw S.left S.faults source.old source.new K.taken K.faults sink.old sink.new)
+        (saw S.left S.faults source.old source.new K.taken K.faults sink.old sink.new
+        tally.old tally.new)
         (exit_status result)) }
     ensures lacks { IfErr args (λ e. error_kind e ≡ ErrorKind.OutOfMemory → LacksWords
-        (saw S.left S.faults source.old source.new K.taken K.faults sink.old sink.new)
+        (saw S.left S.faults source.old source.new K.taken K.faults sink.old sink.new
+        tally.old tally.new)
         (exit_status result)) }
     ensures no_text { IfErr args (λ e. error_kind e ≢ ErrorKind.OutOfMemory → AnswersUsage
-        (saw S.left S.faults source.old source.new K.taken K.faults sink.old sink.new)
+        (saw S.left S.faults source.old source.new K.taken K.faults sink.old sink.new
+        tally.old tally.new)
         (exit_status result)) }
 {
     match args {
         Ok(all) => match words_behind(alloc, all) {
-            Ok(words) => ExitCode::from(top(alloc, rt, &words, source, sink)),
+            Ok(words) => ExitCode::from(top(alloc, rt, &words, source, sink, tally)),
             Err(NoMemory) => ExitCode::from(5),
         },
         Err(error) => {
             if error.kind() == ErrorKind::OutOfMemory {
                 ExitCode::from(5)
             } else {
-                ExitCode::from(top(alloc, rt, &[], source, sink))
+                ExitCode::from(top(alloc, rt, &[], source, sink, tally))
             }
         }
     }

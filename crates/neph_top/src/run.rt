@@ -5,6 +5,7 @@ ghost use Rattle.neph_top.specs.Call.{number, AnswersRun, AnswersUsage, saw};
 
 use crate::call::call;
 use crate::status::Status;
+use neph_core::Tally;
 use neph_io::{Sink, Source, WriteFault, write_all};
 use std::alloc::Global;
 use std::sync::Wait;
@@ -12,14 +13,19 @@ use std::thread::Threads;
 
 /// Reads a script from the source, runs it by turns, writes its transcript to the sink, and answers
 /// the status: 0 for a transcript, 4 for what is no script, 5 for want of memory, 6 and 7 for a
-/// fault of the source and of the sink.
-pub fn run_call<S: Source, K: Sink>(alloc: Global, source: &mut S, sink: &mut K) -> u8
+/// fault of the source and of the sink. With 0 the tally is raised by the run's page steps.
+pub fn run_call<S: Source, K: Sink>(
+    alloc: Global,
+    source: &mut S,
+    sink: &mut K,
+    tally: &mut Tally,
+) -> u8
     // With 0 the transcript written is the one that the plain machine's run of the script read
     // gives.
-    ensures { AnswersRun
-        (saw S.left S.faults source.old source.new K.taken K.faults sink.old sink.new) result }
+    ensures { AnswersRun (saw S.left S.faults source.old source.new K.taken K.faults sink.old
+        sink.new tally.old tally.new) result }
 {
-    let status = call(alloc, source, sink);
+    let status = call(alloc, source, sink, tally);
     number(status)
 }
 
@@ -31,14 +37,17 @@ pub fn top<R: Threads + Wait + Sync, S: Source, K: Sink>(
     words: &[String],
     source: &mut S,
     sink: &mut K,
+    tally: &mut Tally,
 ) -> u8
     ensures run { map string_bytes words.now ≡ codes "run" ∷ [] → AnswersRun
-        (saw S.left S.faults source.old source.new K.taken K.faults sink.old sink.new) result }
+        (saw S.left S.faults source.old source.new K.taken K.faults sink.old sink.new
+        tally.old tally.new) result }
     ensures other_words { map string_bytes words.now ≢ codes "run" ∷ [] → AnswersUsage
-        (saw S.left S.faults source.old source.new K.taken K.faults sink.old sink.new) result }
+        (saw S.left S.faults source.old source.new K.taken K.faults sink.old sink.new
+        tally.old tally.new) result }
 {
     if wants_run(words) {
-        return run_call(alloc, source, sink);
+        return run_call(alloc, source, sink, tally);
     }
     match write_all(sink, USAGE) {
         Ok(()) => 2,

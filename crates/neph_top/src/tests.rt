@@ -1,7 +1,7 @@
 // The worked examples, byte for byte, and faults of source and sink.
 ghost use Rattle.std.specs.Prelude.{◌<◌};
 
-use crate::{run_call, top};
+use crate::{Tally, run_call, top};
 use neph_io::{MemSink, MemSource};
 use std::alloc::{AllocError, Global};
 use std::process::Abort;
@@ -213,7 +213,10 @@ fn expect(rt: &impl Abort, alloc: Global, case: &Case, step: u32) -> Result<(), 
 {
     let mut from = source(alloc, case.script.as_bytes(), step, &[])?;
     let mut to = sink(alloc, step, &[])?;
-    assert_eq!(rt; run_call(alloc, &mut from, &mut to), case.status);
+    assert_eq!(rt;
+        run_call(alloc, &mut from, &mut to, &mut Tally::new()),
+        case.status
+    );
     assert_eq!(rt; to.taken(), case.text.as_bytes());
     Ok(())
 }
@@ -227,15 +230,35 @@ fn scripts_and_what_they_write(rt: HostRuntime) -> Result<(), Fail> {
     Ok(())
 }
 
+// Runs a script, whose run makes so many page steps.
+fn expect_steps(rt: &impl Abort, alloc: Global, case: &Case, steps: u64) -> Result<(), AllocError> {
+    let mut tally = Tally::new();
+    let mut from = source(alloc, case.script.as_bytes(), 4096, &[])?;
+    let mut to = sink(alloc, 4096, &[])?;
+    assert_eq!(rt; run_call(alloc, &mut from, &mut to, &mut tally), 0);
+    assert_eq!(rt; tally.shares(), steps);
+    Ok(())
+}
+
+// A clone of a domain of eight pages shares four; a refused one shares none.
+#[test]
+fn page_steps_are_tallied(rt: HostRuntime) -> Result<(), Fail> {
+    let alloc = rt.alloc();
+    expect_steps(&rt, alloc, &CASES[0], 0)?;
+    expect_steps(&rt, alloc, &CASES[1], 4)?;
+    expect_steps(&rt, alloc, &CASES[5], 0)?;
+    Ok(())
+}
+
 // Runs a script from a source that fails at its first call, and into a sink that fails at this call.
 fn expect_faults(rt: &impl Abort, alloc: Global, case: &Case, call: u32) -> Result<(), AllocError> {
     let mut from = source(alloc, case.script.as_bytes(), 50, &[0])?;
     let mut to = sink(alloc, 10, &[])?;
-    assert_eq!(rt; run_call(alloc, &mut from, &mut to), 6);
+    assert_eq!(rt; run_call(alloc, &mut from, &mut to, &mut Tally::new()), 6);
     assert!(rt; to.taken().is_empty());
     let mut from = source(alloc, case.script.as_bytes(), 50, &[])?;
     let mut to = sink(alloc, 10, &[call])?;
-    assert_eq!(rt; run_call(alloc, &mut from, &mut to), 7);
+    assert_eq!(rt; run_call(alloc, &mut from, &mut to, &mut Tally::new()), 7);
     assert!(rt; case.text.as_bytes().starts_with(to.taken()));
     assert_eq!(rt; to.taken().len(), 10 * call as usize);
     Ok(())
@@ -263,7 +286,7 @@ fn call<R: Threads + Wait + Sync>(
     }
     let mut from = source(alloc, CASES[0].script.as_bytes(), 50, &[])?;
     let mut to = sink(alloc, 50, &[])?;
-    let status = top(alloc, rt, &words, &mut from, &mut to);
+    let status = top(alloc, rt, &words, &mut from, &mut to, &mut Tally::new());
     Ok((status, to))
 }
 
@@ -294,7 +317,7 @@ fn long(alloc: Global, count: usize) -> Result<(u8, MemSink), AllocError> {
     let bytes = vec![in alloc; b'#'; count]?;
     let mut from = source(alloc, &bytes, 65536, &[])?;
     let mut to = sink(alloc, 4096, &[])?;
-    let status = run_call(alloc, &mut from, &mut to);
+    let status = run_call(alloc, &mut from, &mut to, &mut Tally::new());
     Ok((status, to))
 }
 

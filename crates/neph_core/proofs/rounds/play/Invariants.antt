@@ -1,9 +1,9 @@
-use Rattle.neph_runs.specs.Work.{work_left}
-use Rattle.neph_core.proofs.Courses.{Reached}
+use Rattle.neph_turns.proofs.Work.{machine_left}
+use Rattle.neph_core.proofs.Standing.{Rounded}
 use Rattle.neph_core.proofs.rounds.play.Given as goal
 
 abbrev pub invariant-rounds : goal.invariant-rounds
-invariant-rounds l = Reached l.s l.machine
+invariant-rounds l = Rounded l.s l.machine
 
 abbrev pub decreases-rounds : goal.decreases-rounds
-decreases-rounds l = work_left l.s l.machine.state
+decreases-rounds l = machine_left l.machine.frames

@@ -1,5 +1,5 @@
 use Rattle.neph_top.specs.Call.{IsRefusal}
-use Rattle.neph_top.proofs.Answered.{tells_refusal, tells_transcript, transcript_of, refusal}
+use Rattle.neph_top.proofs.Answered.{tells_refusal, tells_transcript, refusal}
 use Rattle.neph_top.proofs.call.call.Goals as goal
 
 pub text_of-requires : goal.text_of-requires
@@ -22,6 +22,5 @@ returns g c =
     let bytes = c.in-Ok.bytes.items in
     let spelled = rw (c.in-Ok-parse.script-is, c.deref.ensures.value) at c.in-Ok-parse.ensures.spelled in
     let text = c.in-Ok-text_of.text.items in
-    let is = transcript_of bytes text c.in-Ok-parse.script spelled c.in-Ok-text_of.ensures in
     let told = rw c.deref-in-Ok-text_of.ensures.value at c.told-in-Ok-text_of.ensures in
-    tells_transcript _ bytes text c.told-in-Ok-text_of.result (record { left = read.0; few = read.2; whole = read.1 }) is read.3 told
+    tells_transcript _ bytes text c.in-Ok-parse.script c.told-in-Ok-text_of.result (record { left = read.0; few = read.2; whole = read.1 }) spelled c.in-Ok-text_of.ensures read.3 told

@@ -1,24 +1,19 @@
-use Rattle.std.proofs.Common.{◌≡◌, sym, ap, ◌∙◌, subst}
-use Rattle.neph_model.specs.WellFormed.{IsWellFormed}
-use Rattle.neph_model.specs.Machine.{Machine}
-use Rattle.neph_model.specs.Start.{start_machine}
-use Rattle.neph_model.specs.Books.{State, Books, start_state}
-use Rattle.neph_flat.specs.Flat.{Flat}
-use Rattle.neph_runs.specs.Orderly.{IsOrderly}
-use Rattle.neph_runs.proofs.CallerLemmas.{start_orderly}
+use Rattle.std.proofs.Common.{◌<◌, List, ap, ◌∙◌, arith}
+use Rattle.std.specs.declared.option.Option.{Option}
+use Rattle.neph_model.specs.declared.script.Script.{Script}
+use Rattle.neph_pool.specs.declared.entry.Entry.{Entry}
+use Rattle.neph_pool.specs.Entries.{hold_at}
+use Rattle.neph_pool.specs.Rows.{blank_entry}
+use Rattle.neph_pool.proofs.Parts.{hold_at-replicate}
+use Rattle.neph_core.proofs.Standing.{plain_surveyed}
 use Rattle.neph_core.proofs.machine.Machine.new.Goals as goal
 
-abbrev state_of : Machine → Books → State
-state_of m b = record { machine = m; books = b }
+pub boot-requires-clause-surveyed : goal.boot-requires-clause-surveyed
+boot-requires-clause-surveyed c = plain_surveyed
 
-pub invariant_of-result : goal.invariant_of-result
-invariant_of-result c =
-    let s = c.args.s.now in
-    let plain = c.in_ok-start.ensures in
-    let books = rw c.items.ensures at c.in_ok-open.ensures in
-    let state : state_of c.in_ok-start.field-0.machine c.in_ok-open.field-0 ≡ start_state s =
-    ap (λ (p : Flat). state_of p.machine c.in_ok-open.field-0) plain ∙ ap (state_of (start_machine s)) books in
-    record {
-      formed = subst IsWellFormed (sym (ap (λ (p : Flat). p.script) plain)) c.requires;
-      orderly = subst IsOrderly (sym state) (start_orderly s c.requires);
-    }
+pub boot-requires-clause-zero : goal.boot-requires-clause-zero
+unfolding blank_entry
+boot-requires-clause-zero c = λ f lt.
+    let same = ap (λ (s : Script). s.frames) c.in_ok-try_clone.ensures in
+    let small : f < c.args.s.now.frames = omega (arith, lt, same) in
+    ap (λ (es : List (Option Entry)). hold_at es f) c.in_ok-pool.ensures.entries ∙ hold_at-replicate c.args.s.now.frames f blank_entry small

@@ -1,4 +1,0 @@
-pub mod Counting
-pub mod Starts
-pub mod Keeping
-pub mod Heirlooms

@@ -1,0 +1,141 @@
+-- Machines that stand for the states of a script's run, and their courses.
+use Rattle.std.proofs.Common.{◌≡◌, ℕ, ◌<◌, ◌+◌, ◌++◌, ◌||◌, Bool, true, false, List, [], ◌∷◌, length, get_or, drop, refl, sym, ap, subst, ◌∙◌}
+use Rattle.neph_base.specs.declared.reply.Actor.{Actor}
+use Rattle.neph_base.specs.declared.reply.Noted.{Noted}
+use Rattle.neph_model.specs.declared.script.Script.{Script}
+use Rattle.neph_model.specs.WellFormed.{IsWellFormed}
+use Rattle.neph_model.specs.Machine.{is_over}
+use Rattle.neph_model.specs.Turns.{turn, turns, round}
+use Rattle.neph_runs.specs.Orderly.{IsOrderly}
+use Rattle.neph_runs.specs.Work.{work_left}
+use Rattle.neph_pool.specs.Plain.{plain_world}
+use Rattle.neph_pool.specs.PlainLaws.{plain_shaped}
+use Rattle.neph_pool.proofs.Seats.{all_counted}
+use Rattle.neph_machine.specs.declared.turn.Turn.{Turn}
+use Rattle.neph_machine.specs.Reached.{state_after}
+use Rattle.neph_machine.specs.StandsFor.{StandsFor}
+use Rattle.neph_machine.specs.Surveyed.{IsSurveyed}
+use Rattle.neph_machine.specs.Turned.{did_move, entry_of, IsRunning, Took, Lacked}
+use Rattle.neph_machine.proofs.Reached.{reached}
+use Rattle.neph_turns.proofs.Work.{machine_left, work_is}
+use Rattle.neph_core.specs.declared.machine.Machine.{Machine}
+use Rattle.neph_core.specs.Course.{Course, Stands, Starts, course}
+use Rattle.neph_core.specs.Does.{Goes, Lacks}
+use Rattle.neph_core.specs.Plays.{EndsRun}
+use Rattle.neph_core.proofs.Courses.{SoFar, at_start, one_more, ends_over, ends_all, Reached, IsGoing, at_first, one_round, less_left, at_stall, at_end}
+
+-- the pool of one thread tells its counts, and they tell of all its seats
+pub plain_surveyed : IsSurveyed plain_world
+plain_surveyed = record { told = λ p. refl; counted = λ p seats. all_counted p seats; shaped = λ p. plain_shaped p }
+
+-- each state of a run is in order
+orderly : (s : Script) → IsWellFormed s → (before : List Actor) → IsOrderly (state_after s before)
+orderly s well before = (reached s well before).sound.orderly
+
+module _ (old new : Machine) (before : List Actor) where
+  -- a turn of the machine over frames, whose entry was put behind the others
+  pub goes : (a : Actor) (t : Turn) → Took plain_world old.frames new.frames (turn old.frames.script (state_after old.frames.script before) a) t
+      → new.history.items ≡ old.history.items ++ entry_of t
+      → Goes old new before (turn old.frames.script (state_after old.frames.script before) a) (did_move t)
+  goes a t took history = record {
+    after = a ∷ before;
+    stands = subst (λ (s : Script). StandsFor plain_world new.frames (state_after s (a ∷ before))) (sym took.script) took.stands;
+    does = record {
+      script = took.script;
+      state = ap (λ (s : Script). state_after s (a ∷ before)) took.script;
+      history = history ∙ ap (λ (xs : List Noted). old.history.items ++ xs) took.entry;
+      shares = took.shares;
+      told = took.moved;
+    };
+  }
+
+  pub goes_as : (a : Actor) (t u : Turn) → t ≡ u → Took plain_world old.frames new.frames (turn old.frames.script (state_after old.frames.script before) a) t
+      → new.history.items ≡ old.history.items ++ entry_of u
+      → Goes old new before (turn old.frames.script (state_after old.frames.script before) a) (did_move u)
+  goes_as a t u e took history = goes a u (subst (Took plain_world old.frames new.frames (turn old.frames.script (state_after old.frames.script before) a)) e took) history
+
+  -- memory ran out
+  pub lacks : Lacked plain_world old.frames new.frames (state_after old.frames.script before) → new.history.items ≡ old.history.items → Lacks old new before
+  lacks lacked history = record {
+    stands = subst (λ (s : Script). StandsFor plain_world new.frames (state_after s before)) (sym lacked.script) lacked.stands;
+    same = ap (λ (s : Script). let c : Course = record { script = s; state = state_after s before; history = new.history.items; shares = plain_world.shares new.frames.pool } in c) lacked.script
+        ∙ ap (λ (xs : List Noted). let c : Course = record { script = old.frames.script; state = state_after old.frames.script before; history = xs; shares = plain_world.shares new.frames.pool } in c) history
+        ∙ ap (λ (n : ℕ). let c : Course = record { script = old.frames.script; state = state_after old.frames.script before; history = old.history.items; shares = n } in c) lacked.shares;
+  }
+
+-- what the turns of some first actors did to a machine, before those of the rest
+pub record GoneOn (first : Machine) (before actors : List Actor) (now : Machine) (moved : Bool) (rest : List Actor) : Type 0 where
+  pub after : List Actor
+  pub stands : Stands now after
+  pub so_far : SoFar (course first before) actors (course now after) moved rest
+
+module _ (first : Machine) (before actors : List Actor) where
+  pub goes_from : Stands first before → GoneOn first before actors first false actors
+  goes_from stands = record { after = before; stands = stands; so_far = at_start (course first before) actors }
+
+  module _ (now : Machine) (moved : Bool) where
+    pub stops_over : (rest : List Actor) (g : GoneOn first before actors now moved rest) → is_over (course now g.after).state.machine ≡ true
+        → Goes first now before (turns first.frames.script (state_after first.frames.script before) actors) moved
+    stops_over rest g over = record { after = g.after; stands = g.stands; does = ends_over (course first before) actors (course now g.after) moved rest g.so_far over }
+
+    pub stops_all : (n : ℕ) (g : GoneOn first before actors now moved (drop n actors)) → n ≡ length actors
+        → Goes first now before (turns first.frames.script (state_after first.frames.script before) actors) moved
+    stops_all n g e = record { after = g.after; stands = g.stands; does = ends_all (course first before) actors (course now g.after) moved n g.so_far e }
+
+    pub goes_on : (next : Machine) (did : Bool) (n : ℕ) (a : Actor) → n < length actors → a ≡ get_or actors n a → (g : GoneOn first before actors now moved (drop n actors)) → is_over (course now g.after).state.machine ≡ false
+        → Goes now next g.after (turn now.frames.script (state_after now.frames.script g.after) a) did → GoneOn first before actors next (moved || did) (drop (n + 1) actors)
+    goes_on next did n a lt is g live step = record {
+      after = step.after;
+      stands = step.stands;
+      so_far = one_more (course first before) actors (course now g.after) (course next step.after) moved did n a lt is live g.so_far step.does;
+    }
+
+-- the machine of a run behind the first turns and some rounds
+pub record Rounded (s : Script) (m : Machine) : Type 0 where
+  pub before : List Actor
+  pub stands : Stands m before
+  pub reached : Reached s (course m before)
+
+pub running : (s : Script) (m : Machine) → Rounded s m → IsRunning plain_world m.frames
+running s m h = (h.before, h.stands)
+
+pub first_round : (s : Script) (start now : Machine) (moved : Bool) → (h : Starts s start) → Goes start now [] (turns start.frames.script (state_after start.frames.script []) s.turns) moved → Rounded s now
+first_round s start now moved h goes = record {
+  before = goes.after;
+  stands = goes.stands;
+  reached = at_first s (course start []) (course now goes.after) moved h.script (ap (λ (x : Script). state_after x []) h.script) h.history h.shares goes.does;
+}
+
+module _ (s : Script) (well : IsWellFormed s) (now next : Machine) (moved : Bool) (h : Rounded s now) (live : is_over (course now h.before).state.machine ≡ false)
+    (goes : Goes now next h.before (turns now.frames.script (state_after now.frames.script h.before) round) moved) where
+  state_is : state_after s h.before ≡ (course now h.before).state
+  state_is = ap (λ (x : Script). state_after x h.before) (sym h.reached.script)
+
+  goes_on_still : IsGoing s (course now h.before)
+  goes_on_still = record { formed = well; orderly = subst IsOrderly state_is (orderly s well h.before); live = live }
+
+  pub next_round : moved ≡ true → Rounded s next
+  next_round e = record {
+    before = goes.after;
+    stands = goes.stands;
+    reached = one_round s (course now h.before) (course next goes.after) moved h.reached goes_on_still goes.does e;
+  }
+
+  left_is : (m : Machine) (before : List Actor) → m.frames.script ≡ s → Stands m before → machine_left m.frames ≡ work_left s (course m before).state
+  left_is m before e stands = work_is plain_world m.frames (state_after m.frames.script before) stands ∙ ap (λ (x : Script). work_left x (course m before).state) e
+
+  pub less_is_left : moved ≡ true → machine_left next.frames < machine_left now.frames
+  less_is_left e =
+      let same : next.frames.script ≡ s = goes.does.script ∙ h.reached.script in
+      rw (left_is next goes.after same goes.stands, left_is now h.before h.reached.script h.stands)
+      (less_left s (course now h.before) (course next goes.after) moved h.reached goes_on_still goes.does e)
+
+  pub ends_stalled : moved ≡ false → EndsRun s next true
+  ends_stalled e = record {
+    before = goes.after;
+    stands = goes.stands;
+    plays = at_stall s (course now h.before) (course next goes.after) moved h.reached goes_on_still goes.does e;
+  }
+
+pub ends_done : (s : Script) (now : Machine) (h : Rounded s now) → is_over (course now h.before).state.machine ≡ true → EndsRun s now false
+ends_done s now h over = record { before = h.before; stands = h.stands; plays = at_end s (course now h.before) h.reached over }
