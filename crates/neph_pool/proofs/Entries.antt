@@ -1,9 +1,9 @@
 -- How the entries of a seat read after a change of one of them.
-use Rattle.std.proofs.Common.{◌≡◌, ◌≢◌, ℕ, zero, suc, ◌<◌, true, List, [], ◌∷◌, ◌+◌, ◌++◌, take, drop, length, set, get_or, add-one, Some, None, refl, ap, arith, length-set}
+use Rattle.std.proofs.Common.{◌≡◌, ◌≢◌, ℕ, zero, suc, true, List, [], ◌∷◌, length, Some, None, refl, ap, arith, length-set}
 use Rattle.std.specs.declared.option.Option.{Option}
 use Rattle.neph_pool.specs.declared.entry.Entry.{Entry}
 use Rattle.neph_pool.specs.declared.entry.Hold.{Hold}
-use Rattle.neph_pool.specs.Entries.{entry_at, hold_of, words_of, with_hold_of, with_words_of, hold_at, words_at, with_hold, with_words, with_word, word_at, without, is_held, is_here, weight_of, IsHeldAt, IsOnceAt, IsSoleAt}
+use Rattle.neph_pool.specs.Entries.{entry_at, hold_of, words_of, with_hold_of, with_words_of, hold_at, words_at, with_hold, with_words, without, is_held, is_here, weight_of, IsHeldAt, IsOnceAt, IsSoleAt}
 
 pub held_sole : (es : List (Option Entry)) (f : ℕ) → IsSoleAt es f → IsHeldAt es f
 held_sole es f e = ap is_held e
@@ -132,20 +132,6 @@ words_at-without_other es f g n = ap words_of (entry_at-without_other es f g n)
 pub length-without : (es : List (Option Entry)) (f : ℕ) → length (without es f) ≡ length es
 unfolding without
 length-without es f = length-set es f _
-
-over_more : (A D : List ℕ) (w : ℕ) → w < length A → length A ≡ length D → set (take w A ++ drop w D) w (get_or A w 0) ≡ take (suc w) A ++ drop (suc w) D
-over_more [] D w h e = absurd (omega arith)
-over_more (a ∷ A) [] w h e = absurd (omega arith)
-over_more (a ∷ A) (d ∷ D) zero h e = refl
-over_more (a ∷ A) (d ∷ D) (suc w) h e = ap (λ (xs : List ℕ). a ∷ xs) (over_more A D w (omega arith) (omega arith))
-
--- one more word of a copy
-pub copied_word : (es : List (Option Entry)) (f t w : ℕ) → f ≢ t → is_here (hold_at es t) ≡ true → w < length (words_at es f) → length (words_at es f) ≡ length (words_at es t)
-    → let now : List (Option Entry) = with_words es t (take w (words_at es f) ++ drop w (words_at es t)) in
-    with_word now t w (word_at now f w) ≡ with_words es t (take (w + 1) (words_at es f) ++ drop (w + 1) (words_at es t))
-copied_word es f t w n here lt len =
-    let xs : List ℕ = take w (words_at es f) ++ drop w (words_at es t) in
-    rw (words_at-with_words_other es t xs f n, words_at-with_words es t xs here, with_words-twice es t xs (set xs w (get_or (words_at es f) w 0)), add-one, over_more (words_at es f) (words_at es t) w lt len)
 
 -- for the attribute of a function that reads and writes frames
 pub ruleset entry_laws = (held_sole, here_held, once_here, hold_at-with_words, words_at-with_words, words_at-with_words_other, with_words-twice, with_words-same, hold_at-with_hold, hold_at-with_hold_other, words_at-with_hold, hold_at-without_other, words_at-without_other)

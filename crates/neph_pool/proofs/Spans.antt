@@ -1,8 +1,12 @@
 -- Bytes and words of a frame.
-use Rattle.std.proofs.Common.{◌≡◌, ◌+◌, ◌*◌, ◌-◌, ◌/◌, ◌%◌, ◌<◌, ℕ, zero, suc, true, List, [], ◌∷◌, ◌++◌, length, take, drop, set, get_or, refl, sym, ap, ◌∙◌, arith, length-append, length-drop, append_assoc, drop-cons, length-set}
-use Rattle.std.specs.Int.{w64, to_le_bytes}
+use Rattle.std.proofs.Common.{◌≡◌, ◌+◌, ◌*◌, ◌-◌, ◌/◌, ◌%◌, ◌<◌, ◌≤◌, ℕ, zero, suc, true, List, [], ◌∷◌, ◌++◌, length, take, drop, set, get_or, refl, sym, ap, ◌∙◌, arith, length-append, length-drop, append_assoc}
+use Rattle.std.specs.Int.{w64, to_le_bytes, from_le_bytes}
 use Rattle.std.specs.declared.option.Option.{Option}
-use Rattle.std.proofs.lemmas.List.{set-append_left, set-append_right, get_or-append_right, get_or_append_left, append-nil, take-append-drop, length-take-le, set_at, take_more, take_more_set, get_or-drop}
+use Rattle.std.proofs.Math.Seq.{take-add, drop-append-add}
+use Rattle.std.proofs.lemmas.List.{append-nil, take-append-drop, take-append-le, drop-append-le, drop-drop, take_at, length-take-le, get_or-drop}
+use Rattle.std.proofs.lemmas.Nat.{le_bytes_8}
+use Rattle.std.proofs.lemmas.Slice.{take-put_mid}
+use borrow.Rule.Slice.PartMut.{put_mid}
 use Rattle.neph_pool.specs.Bytes.{with_bytes}
 use Rattle.neph_pool.specs.declared.entry.Entry.{Entry}
 use Rattle.neph_pool.specs.Entries.{hold_at, words_at, word_at, with_words, with_word, is_here}
@@ -17,55 +21,85 @@ unfolding bytes_of
 length-bytes [] = refl
 length-bytes (w ∷ ws) = length-append (to_le_bytes w64 w) (bytes_of ws) ∙ (let e = eight w in let h = length-bytes ws in omega arith)
 
--- byte j of word i
-pub byte_in : (ws : List ℕ) (i j k : ℕ) → k ≡ 8 * i + j → i < length ws → j < 8 → get_or (bytes_of ws) k 0 ≡ get_or (to_le_bytes w64 (get_or ws i 0)) j 0
-unfolding bytes_of
-byte_in [] i j k e li lj = absurd (omega arith)
-byte_in (w ∷ ws) zero j k e li lj = let n : k ≡ j = omega arith in rw n (get_or_append_left (to_le_bytes w64 w) (bytes_of ws) 0 j (rw (eight w) lj))
-byte_in (w ∷ ws) (suc i) j k e li lj = get_or-append_right (to_le_bytes w64 w) (bytes_of ws) 8 k 0 (eight w) (omega arith) ∙ byte_in ws i j (k - 8) (omega arith) (omega arith) lj
+-- past the first of two lists
+drop_past : (xs ys : List ℕ) (at m : ℕ) → at ≡ length xs + m → drop at (xs ++ ys) ≡ drop m ys
+drop_past xs ys at m e = ap (λ (k : ℕ). drop k (xs ++ ys)) e ∙ drop-append-add xs ys m
 
--- byte j of word i changes
-pub byte_set : (ws : List ℕ) (i j k b v : ℕ) → k ≡ 8 * i + j → i < length ws → j < 8 → to_le_bytes w64 v ≡ set (to_le_bytes w64 (get_or ws i 0)) j b → bytes_of (set ws i v) ≡ set (bytes_of ws) k b
+take_past : (xs ys : List ℕ) (at m : ℕ) → at ≡ length xs + m → take at (xs ++ ys) ≡ xs ++ take m ys
+take_past [] ys at m e = ap (λ (k : ℕ). take k ys) (let k : at ≡ m = omega arith in k)
+take_past (x ∷ xs) ys zero m e = absurd (omega arith)
+take_past (x ∷ xs) ys (suc at) m e = ap (λ (zs : List ℕ). x ∷ zs) (take_past xs ys at m (omega arith))
+
+-- bytes of the word i are bytes of the frame
+pub word_bytes : (ws : List ℕ) (i j at n : ℕ) → at ≡ 8 * i + j → i < length ws → j + n ≤ 8 → take n (drop j (to_le_bytes w64 (get_or ws i 0))) ≡ take n (drop at (bytes_of ws))
 unfolding bytes_of
-byte_set [] i j k b v e li lj h = absurd (omega arith)
-byte_set (w ∷ ws) zero j k b v e li lj h =
-    let n : k ≡ j = omega arith in
-    ap (λ (xs : List ℕ). xs ++ bytes_of ws) h ∙ sym (set-append_left (to_le_bytes w64 w) (bytes_of ws) j b (rw (eight w) lj)) ∙ ap (λ (m : ℕ). set (to_le_bytes w64 w ++ bytes_of ws) m b) (sym n)
-byte_set (w ∷ ws) (suc i) j k b v e li lj h =
-    ap (λ (xs : List ℕ). to_le_bytes w64 w ++ xs) (byte_set ws i j (k - 8) b v (omega arith) (omega arith) lj h)
-    ∙ sym (set-append_right (to_le_bytes w64 w) (bytes_of ws) 8 k b (eight w) (omega arith))
+word_bytes [] i j at n e li lj = absurd (omega arith)
+word_bytes (w ∷ ws) zero j at n e li lj =
+    let b : List ℕ = to_le_bytes w64 w in
+    let k : at ≡ j = omega arith in
+    sym (ap (λ (m : ℕ). take n (drop m (b ++ bytes_of ws))) k ∙ ap (λ (xs : List ℕ). take n xs) (drop-append-le j b (bytes_of ws) (rw (eight w) (omega arith)))
+    ∙ take-append-le n (drop j b) (bytes_of ws) (omega (arith, length-drop j b, eight w)))
+word_bytes (w ∷ ws) (suc i) j at n e li lj =
+    word_bytes ws i j (at - 8) n (omega arith) (omega arith) lj
+    ∙ ap (λ (xs : List ℕ). take n xs) (sym (drop_past (to_le_bytes w64 w) (bytes_of ws) at (at - 8) (omega (arith, eight w))))
+
+-- bytes of the word i change
+over_first : (xs ys bs : List ℕ) (at : ℕ) → at + length bs ≤ length xs → with_bytes (xs ++ ys) at bs ≡ with_bytes xs at bs ++ ys
+over_first xs ys bs at h =
+    ap (λ (zs : List ℕ). zs ++ bs ++ drop (at + length bs) (xs ++ ys)) (take-append-le at xs ys (omega arith))
+    ∙ ap (λ (zs : List ℕ). take at xs ++ bs ++ zs) (drop-append-le (at + length bs) xs ys h)
+    ∙ sym (append_assoc (take at xs ++ bs) (drop (at + length bs) xs) ys)
+
+over_past : (xs ys bs : List ℕ) (at m : ℕ) → at ≡ length xs + m → with_bytes (xs ++ ys) at bs ≡ xs ++ with_bytes ys m bs
+over_past xs ys bs at m e =
+    ap (λ (zs : List ℕ). zs ++ bs ++ drop (at + length bs) (xs ++ ys)) (take_past xs ys at m e)
+    ∙ ap (λ (zs : List ℕ). (xs ++ take m ys) ++ bs ++ zs) (drop_past xs ys (at + length bs) (m + length bs) (omega arith))
+    ∙ ap (λ (zs : List ℕ). zs ++ drop (m + length bs) ys) (append_assoc xs (take m ys) bs)
+    ∙ append_assoc xs (take m ys ++ bs) (drop (m + length bs) ys)
+
+word_over : (ws bs : List ℕ) (i j at v : ℕ) → at ≡ 8 * i + j → i < length ws → j + length bs ≤ 8 → to_le_bytes w64 v ≡ with_bytes (to_le_bytes w64 (get_or ws i 0)) j bs
+    → bytes_of (set ws i v) ≡ with_bytes (bytes_of ws) at bs
+unfolding bytes_of
+word_over [] bs i j at v e li lj h = absurd (omega arith)
+word_over (w ∷ ws) bs zero j at v e li lj h =
+    let k : j ≡ at = omega arith in
+    ap (λ (xs : List ℕ). xs ++ bytes_of ws) h ∙ sym (over_first (to_le_bytes w64 w) (bytes_of ws) bs j (rw (eight w) lj)) ∙ ap (λ (m : ℕ). with_bytes (to_le_bytes w64 w ++ bytes_of ws) m bs) k
+word_over (w ∷ ws) bs (suc i) j at v e li lj h =
+    ap (λ (xs : List ℕ). to_le_bytes w64 w ++ xs) (word_over ws bs i j (at - 8) v (omega arith) (omega arith) lj h)
+    ∙ sym (over_past (to_le_bytes w64 w) (bytes_of ws) bs at (at - 8) (omega (arith, eight w)))
 
 pub over_nothing : (page : List ℕ) (at : ℕ) → with_bytes page at [] ≡ page
 over_nothing page at =
     ap (λ (xs : List ℕ). xs ++ drop (at + 0) page) (append-nil (take at page)) ∙ ap (λ (k : ℕ). take at page ++ drop k page) (let e : at + 0 ≡ at = omega arith in e) ∙ take-append-drop at page
 
-pub over_one : (page bs : List ℕ) (at i b : ℕ) → at + i < length page → i ≡ length bs → set (with_bytes page at bs) (at + i) b ≡ with_bytes page at (bs ++ b ∷ [])
-over_one page bs at i b lt e =
-    let T : List ℕ = take at page in
-    let lT : length T ≡ at = length-take-le at page (omega arith) in
-    let same : at + length bs ≡ at + i = omega arith in
-    let len : length (T ++ bs) ≡ at + i = length-append T bs ∙ (omega arith) in
-    let more : suc (at + i) ≡ at + length (bs ++ b ∷ []) = let h = length-append bs (b ∷ []) in omega arith in
-    ap (λ (k : ℕ). set ((T ++ bs) ++ drop k page) (at + i) b) same
-    ∙ ap (λ (xs : List ℕ). set ((T ++ bs) ++ xs) (at + i) b) (drop-cons page (at + i) 0 lt)
-    ∙ set_at (T ++ bs) (get_or page (at + i) 0) (drop (suc (at + i)) page) b (at + i) len
-    ∙ sym (append_assoc (T ++ bs) (b ∷ []) (drop (suc (at + i)) page))
-    ∙ ap (λ (xs : List ℕ). xs ++ drop (suc (at + i)) page) (append_assoc T bs (b ∷ []))
-    ∙ ap (λ (k : ℕ). (T ++ (bs ++ b ∷ [])) ++ drop k page) more
+-- a write that goes on where another ended
+over_next : (page cs bs : List ℕ) (at next : ℕ) → next ≡ at + length cs → at ≤ length page → with_bytes (with_bytes page at cs) next bs ≡ with_bytes page at (cs ++ bs)
+over_next page cs bs at next e h =
+    let T : List ℕ = take at page ++ cs in
+    let D : List ℕ = drop (at + length cs) page in
+    let len : length T ≡ next = length-append (take at page) cs ∙ (let l = length-take-le at page h in omega arith) in
+    let both : at + length cs + length bs ≡ at + length (cs ++ bs) = let l = length-append cs bs in omega arith in
+    ap (λ (xs : List ℕ). xs ++ bs ++ drop (next + length bs) (T ++ D)) (take_at T D next len)
+    ∙ ap (λ (xs : List ℕ). T ++ bs ++ xs) (drop_past T D (next + length bs) (length bs) (omega arith) ∙ drop-drop (length bs) (at + length cs) page ∙ ap (λ (k : ℕ). drop k page) both)
+    ∙ ap (λ (xs : List ℕ). xs ++ drop (at + length (cs ++ bs)) page) (append_assoc (take at page) cs bs)
 
--- one more byte of a write
-pub over_more : (page bytes : List ℕ) (at i b : ℕ) → at + i < length page → i < length bytes → b ≡ get_or bytes i 0 → set (with_bytes page at (take i bytes)) (at + i) b ≡ with_bytes page at (take (i + 1) bytes)
-over_more page bytes at i b lt li e =
-    over_one page (take i bytes) at i b lt (sym (length-take-le i bytes (omega arith)))
-    ∙ ap (λ (xs : List ℕ). with_bytes page at xs) (ap (λ (x : ℕ). take i bytes ++ x ∷ []) e ∙ sym (take_more bytes i 0 li))
+-- n more bytes of a write
+pub over_more : (page bytes : List ℕ) (at i n k : ℕ) → at ≤ length page → i + n ≤ length bytes → k ≡ n → with_bytes (with_bytes page at (take i bytes)) (at + i) (take k (drop i bytes)) ≡ with_bytes page at (take (i + n) bytes)
+over_more page bytes at i n k h li e =
+    let len : length (take i bytes) ≡ i = length-take-le i bytes (omega arith) in
+    over_next page (take i bytes) (take k (drop i bytes)) at (at + i) (omega arith) h
+    ∙ ap (λ (xs : List ℕ). with_bytes page at xs) (ap (λ (m : ℕ). take i bytes ++ take m (drop i bytes)) e ∙ sym (take-add i n bytes))
 
--- one more byte of a read
-pub read_more : (buf page : List ℕ) (at i b : ℕ) → i < length buf → at + i < length page → take i buf ≡ take i (drop at page) → b ≡ get_or page (at + i) 0 → take (i + 1) (set buf i b) ≡ take (i + 1) (drop at page)
-read_more buf page at i b lb lp h e =
-    let fit : i < length (drop at page) = omega (arith, length-drop at page) in
-    take_more_set buf i b lb ∙ ap (λ (xs : List ℕ). xs ++ b ∷ []) h
-    ∙ ap (λ (x : ℕ). take i (drop at page) ++ x ∷ []) (e ∙ sym (get_or-drop at page i 0))
-    ∙ sym (take_more (drop at page) i 0 fit)
+pub length_mid : (i k : ℕ) (xs ys : List ℕ) → i + k ≤ length xs → length ys ≡ k → length (put_mid i k xs ys) ≡ length xs
+length_mid i k xs ys h e =
+    omega (arith, length-append (take i xs) (ys ++ drop k (drop i xs)), length-append ys (drop k (drop i xs)), length-take-le i xs (omega arith), length-drop k (drop i xs), length-drop i xs)
+
+-- n more bytes of a read
+pub read_more : (buf part page : List ℕ) (at i n k : ℕ) → i ≤ length buf → length part ≡ n → take i buf ≡ take i (drop at page) → part ≡ take n (drop (at + i) page) → take (i + n) (put_mid i k buf part) ≡ take (i + n) (drop at page)
+read_more buf part page at i n k h len old new =
+    take-put_mid i k buf part (i + n) (omega arith) h ∙ ap (λ (xs : List ℕ). xs ++ part) old
+    ∙ ap (λ (xs : List ℕ). take i (drop at page) ++ xs) (new ∙ ap (λ (xs : List ℕ). take n xs) (sym (drop-drop i at page)))
+    ∙ sym (take-add i n (drop at page))
 
 -- a frame's entries after its words changed
 pub settled : (es fs : List (Option Entry)) (f : ℕ) (ws : List ℕ) → fs ≡ with_words es f ws → is_here (hold_at es f) ≡ true → fs ≡ with_words es f (words_at fs f)
@@ -75,16 +109,15 @@ settled es fs f ws e here = e ∙ ap (λ (xs : List ℕ). with_words es f xs) (s
 pub settled_twice : (es fs gs : List (Option Entry)) (f : ℕ) (ws vs : List ℕ) → fs ≡ with_words es f ws → gs ≡ with_words fs f vs → gs ≡ with_words es f vs
 settled_twice es fs gs f ws vs e h = h ∙ ap (λ (xs : List (Option Entry)). with_words xs f vs) e ∙ with_words-twice es f ws vs
 
--- a byte has been written
-pub wrote : (es fs gs : List (Option Entry)) (f at b v : ℕ) (bs : List ℕ) → fs ≡ es → gs ≡ with_word fs f (at / 8) v → is_here (hold_at es f) ≡ true → length (words_at es f) ≡ 512 → at < 4096
-    → bs ≡ to_le_bytes w64 (word_at es f (at / 8)) → to_le_bytes w64 v ≡ set bs (at % 8) b → bytes_at gs f ≡ set (bytes_at es f) at b
-wrote es fs gs f at b v bs e h here long lt w h8 =
+-- bytes have been written within a word
+pub wrote : (es fs gs : List (Option Entry)) (f at v : ℕ) (bs : List ℕ) → fs ≡ es → gs ≡ with_word fs f (at / 8) v → is_here (hold_at es f) ≡ true → length (words_at es f) ≡ 512 → at < 4096
+    → at % 8 + length bs ≤ 8 → to_le_bytes w64 v ≡ with_bytes (to_le_bytes w64 (word_at es f (at / 8))) (at % 8) bs → bytes_at gs f ≡ with_bytes (bytes_at es f) at bs
+wrote es fs gs f at v bs e h here long lt within is =
     let at' : at ≡ 8 * (at / 8) + at % 8 = omega arith in
     let fit : at / 8 < length (words_at es f) = omega arith in
-    let small : at % 8 < 8 = omega arith in
     let new : words_at gs f ≡ set (words_at es f) (at / 8) v
     = ap (λ (xs : List (Option Entry)). words_at xs f) (h ∙ ap (λ (xs : List (Option Entry)). with_word xs f (at / 8) v) e) ∙ words_at-with_words es f _ here in
-    ap bytes_of new ∙ byte_set (words_at es f) (at / 8) (at % 8) at b v at' fit small (h8 ∙ ap (λ (xs : List ℕ). set xs (at % 8) b) w)
+    ap bytes_of new ∙ word_over (words_at es f) bs (at / 8) (at % 8) at v at' fit within is
 
 byte_small : (n i : ℕ) → get_or (to_le_bytes w64 n) i 0 < 256
 byte_small n zero = omega arith
@@ -97,16 +130,36 @@ byte_small n (suc (suc (suc (suc (suc (suc zero)))))) = omega arith
 byte_small n (suc (suc (suc (suc (suc (suc (suc zero))))))) = omega arith
 byte_small n (suc (suc (suc (suc (suc (suc (suc (suc i)))))))) = omega arith
 
-small_set : (xs : List ℕ) (j b : ℕ) → ((i : ℕ) → get_or xs i 0 < 256) → b < 256 → (i : ℕ) → get_or (set xs j b) i 0 < 256
-small_set [] j b h lt i = h i
-small_set (x ∷ xs) zero b h lt zero = lt
-small_set (x ∷ xs) zero b h lt (suc i) = h (suc i)
-small_set (x ∷ xs) (suc j) b h lt zero = h zero
-small_set (x ∷ xs) (suc j) b h lt (suc i) = small_set xs j b (λ k. h (suc k)) lt i
+abbrev AreBytes : List ℕ → Type 0
+AreBytes xs = (i : ℕ) → get_or xs i 0 < 256
 
--- the bytes of a word after one has changed
-pub bytes_small : (n j b : ℕ) (bs : List ℕ) → bs ≡ to_le_bytes w64 n → b < 256 → (i : ℕ) → get_or (set bs j b) i 0 < 256
-bytes_small n j b bs e lt i = rw e (small_set (to_le_bytes w64 n) j b (byte_small n) lt i)
+small_both : (xs ys : List ℕ) → AreBytes xs → AreBytes ys → AreBytes (xs ++ ys)
+small_both [] ys h k i = k i
+small_both (x ∷ xs) ys h k zero = h zero
+small_both (x ∷ xs) ys h k (suc i) = small_both xs ys (λ j. h (suc j)) k i
 
-pub bytes_eight : (n j b : ℕ) (bs : List ℕ) → bs ≡ to_le_bytes w64 n → length (set bs j b) ≡ 8
-bytes_eight n j b bs e = length-set bs j b ∙ ap length e ∙ eight n
+small_take : (n : ℕ) (xs : List ℕ) → AreBytes xs → AreBytes (take n xs)
+small_take zero xs h i = omega arith
+small_take (suc n) [] h i = omega arith
+small_take (suc n) (x ∷ xs) h zero = h zero
+small_take (suc n) (x ∷ xs) h (suc i) = small_take n xs (λ j. h (suc j)) i
+
+small_drop : (n : ℕ) (xs : List ℕ) → AreBytes xs → AreBytes (drop n xs)
+small_drop n xs h i = rw (get_or-drop n xs i 0) (h (n + i))
+
+-- the bytes of a word after some have changed
+pub word_after : (w v j k : ℕ) (word part bs : List ℕ) → word ≡ to_le_bytes w64 w → part ≡ bs → k ≡ length bs → j + length bs ≤ 8 → ((i : ℕ) → get_or bs i 0 < 256)
+    → v ≡ from_le_bytes w64 (put_mid j k word part) → to_le_bytes w64 v ≡ with_bytes (to_le_bytes w64 w) j bs
+word_after w v j k word part bs is same count within small val =
+    let b : List ℕ = to_le_bytes w64 w in
+    let put : put_mid j k word part ≡ with_bytes b j bs
+    = ap (λ (xs : List ℕ). put_mid j k xs part) is ∙ ap (λ (xs : List ℕ). put_mid j k b xs) same ∙ ap (λ (m : ℕ). put_mid j m b bs) count
+    ∙ ap (λ (xs : List ℕ). take j b ++ (bs ++ xs)) (drop-drop (length bs) j b) ∙ sym (append_assoc (take j b) bs (drop (j + length bs) b)) in
+    let l1 = length-append (take j b ++ bs) (drop (j + length bs) b) in
+    let l2 = length-append (take j b) bs in
+    let l3 = length-take-le j b (rw (eight w) (omega arith)) in
+    let l4 = length-drop (j + length bs) b in
+    let l5 = eight w in
+    le_bytes_8 (with_bytes b j bs) v (omega arith)
+    (small_both (take j b ++ bs) (drop (j + length bs) b) (small_both (take j b) bs (small_take j b (byte_small w)) small) (small_drop (j + length bs) b (byte_small w)))
+    (val ∙ ap (from_le_bytes w64) put)

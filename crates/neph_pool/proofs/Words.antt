@@ -44,15 +44,43 @@ words_moved : (ws : List (List ℕ)) (ps : List ℕ) (f k : ℕ) → get_or ws k
 unfolding words_in
 words_moved ws ps f k e = map-set_same (λ (p : ℕ). get_or ws p []) ps f k 0 e
 
--- a frame gets a page of its own, with the same words
-pub words_own : (xs : List Page) (x : Page) (ps : List ℕ) (f n : ℕ) → n ≡ length xs → ((i : ℕ) → get_or ps i 0 < n) → get_or ps f 0 ≡ 0 → get_or (page_words xs) 0 [] ≡ blank_page → x.words ≡ blank_page
-    → words_in (page_words (xs ++ x ∷ [])) (set ps f n) ≡ words_in (page_words xs) ps
-words_own xs x ps f n len within none blank new =
+-- a frame takes the place of another page
+pub words_reads : (ws : List (List ℕ)) (ps : List ℕ) (f k : ℕ) → words_in ws (set ps f k) ≡ set (words_in ws ps) f (get_or ws k [])
+unfolding words_in
+words_reads ws ps f k = map-set (λ (p : ℕ). get_or ws p []) ps f k
+
+-- a frame without a page of its own is blank
+pub words_unmade : (ws : List (List ℕ)) (ps : List ℕ) (f : ℕ) → get_or ps f 0 ≡ 0 → get_or ws 0 [] ≡ blank_page → words_in ws ps ≡ set (words_in ws ps) f blank_page
+words_unmade ws ps f none blank =
+    sym (words_moved ws ps f 0 (ap (λ (p : ℕ). get_or ws p []) (sym none))) ∙ words_reads ws ps f 0 ∙ ap (λ (w : List ℕ). set (words_in ws ps) f w) blank
+
+-- its words
+pub words_zero : (ws : List (List ℕ)) (ps : List ℕ) (f : ℕ) → f < length ps → get_or ps f 0 ≡ 0 → get_or ws 0 [] ≡ blank_page → get_or (words_in ws ps) f [] ≡ blank_page
+words_zero ws ps f fit none blank = words_here ws ps f fit ∙ ap (λ (p : ℕ). get_or ws p []) none ∙ blank
+
+abbrev zeros : ℕ → List ℕ
+zeros n = replicate n 0
+
+set_zeros : (n w : ℕ) → set (zeros n) w 0 ≡ zeros n
+set_zeros zero w = refl
+set_zeros (suc n) zero = refl
+set_zeros (suc n) (suc w) = ap (λ (xs : List ℕ). 0 ∷ xs) (set_zeros n w)
+
+-- it stays blank where a 0 is written
+pub words_still : (ws : List (List ℕ)) (ps : List ℕ) (f w : ℕ) → f < length ps → get_or ps f 0 ≡ 0 → get_or ws 0 [] ≡ blank_page → words_in ws ps ≡ set (words_in ws ps) f (set (get_or (words_in ws ps) f []) w 0)
+words_still ws ps f w fit none blank =
+    words_unmade ws ps f none blank
+    ∙ ap (λ (xs : List ℕ). set (words_in ws ps) f xs) (sym (ap (λ (xs : List ℕ). set xs w 0) (words_zero ws ps f fit none blank) ∙ set_zeros 512 w))
+
+-- a frame gets a page of its own
+pub words_made : (xs : List Page) (x : Page) (ps : List ℕ) (f n : ℕ) → n ≡ length xs → ((i : ℕ) → get_or ps i 0 < n) → words_in (page_words (xs ++ x ∷ [])) (set ps f n) ≡ set (words_in (page_words xs) ps) f x.words
+words_made xs x ps f n len within =
     let ws = page_words xs in
     let same : n ≡ length ws = len ∙ sym (length-map xs (λ (y : Page). y.words)) in
     let at : get_or (ws ++ x.words ∷ []) n [] ≡ x.words = ap (λ (k : ℕ). get_or (ws ++ x.words ∷ []) k []) same ∙ get_or_last ws x.words in
-    let first : get_or (ws ++ x.words ∷ []) (get_or ps f 0) [] ≡ blank_page = get_or_front ws x.words (get_or ps f 0) (let w = within f in omega arith) ∙ ap (λ (k : ℕ). get_or ws k []) none ∙ blank in
-    rw (map-append (λ (y : Page). y.words) xs (x ∷ [])) (words_moved (ws ++ x.words ∷ []) ps f n (at ∙ new ∙ sym first) ∙ words_more ws x.words ps (λ i. let w = within i in omega arith))
+    rw (map-append (λ (y : Page). y.words) xs (x ∷ []))
+    (words_reads (ws ++ x.words ∷ []) ps f n ∙ ap (λ (w : List ℕ). set (words_in (ws ++ x.words ∷ []) ps) f w) at
+    ∙ ap (λ (vs : List (List ℕ)). set vs f x.words) (words_more ws x.words ps (λ i. let w = within i in omega arith)))
 
 get_or_set : (ws : List (List ℕ)) (k : ℕ) (w : List ℕ) → k < length ws → get_or (set ws k w) k [] ≡ w
 get_or_set [] k w h = absurd (omega arith)

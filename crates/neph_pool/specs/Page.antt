@@ -2,7 +2,7 @@
 use Rattle.std.specs.Prelude.{◌==◌, ℕ, List, [], map, replicate, slice_index_or, count_by}
 use Rattle.neph_pool.specs.declared.page.Page.{Page}
 
--- the words of a page that was never written
+-- the words of a page of zeros
 abbrev pub blank_page : List ℕ
 blank_page = replicate 512 0
 

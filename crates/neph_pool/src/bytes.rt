@@ -1,5 +1,5 @@
 // The bytes of a frame, little-endian in its words.
-ghost use Rattle.std.specs.Prelude.{◌≡◌, ◌+◌, ◌<◌, ◌≤◌, length, take, drop, slice_index, slice_set};
+ghost use Rattle.std.specs.Prelude.{◌≡◌, ◌+◌, ◌%◌, ◌<◌, ◌≤◌, length, take, drop};
 ghost use Rattle.neph_pool.specs.Bytes.{bytes_at, with_bytes};
 ghost use Rattle.neph_pool.specs.Entries.{with_words, words_at, IsHeldAt, IsSoleAt};
 ghost use Rattle.neph_pool.specs.World.{World, IsSeat, Moves, SameCounts};
@@ -7,40 +7,55 @@ ghost use Rattle.neph_pool.specs.World.{World, IsSeat, Moves, SameCounts};
 use crate::pool::FramePool;
 use neph_base::{FrameNo, PAGE_BYTES, Piece};
 
-// One byte of a frame.
-fn read_byte<P: FramePool>(pool: &mut P, seat: &mut P::Seat, f: FrameNo, at: u16) -> u8
+// Reads bytes that lie within one word of a frame.
+fn read_in_word<P: FramePool>(
+    pool: &mut P,
+    seat: &mut P::Seat,
+    f: FrameNo,
+    at: usize,
+    into: &mut [u8],
+)
     requires seat { IsSeat P.world pool.old seat.old }
     requires frame { IsHeldAt (P.world.entries pool.old seat.old) f }
     requires at { at < PAGE_BYTES }
-    ensures byte { result ≡ slice_index (bytes_at (P.world.entries pool.old seat.old) f) at }
+    requires within { at % 8 + length into.old ≤ 8 }
+    ensures bytes { into.new ≡ take (length into.old)
+        (drop at (bytes_at (P.world.entries pool.old seat.old) f)) }
     ensures entries { P.world.entries pool.new seat.new ≡ P.world.entries pool.old seat.old }
     ensures met { P.world.met seat.new ≡ P.world.met seat.old }
     ensures moves { Moves P.world pool.old seat.old pool.new seat.new }
     ensures counts { SameCounts P.world pool.old pool.new }
 {
-    let word = pool.read(seat, f, at / 8);
-    let bytes = word.to_le_bytes();
-    bytes[(at % 8) as usize]
+    let word = pool.read(seat, f, (at / 8) as u16).to_le_bytes();
+    let lane = at % 8;
+    into.copy_from_slice(&word[lane..lane + into.len()]);
 }
 
-// Writes one byte of a frame.
-fn write_byte<P: FramePool>(pool: &mut P, seat: &mut P::Seat, f: FrameNo, at: u16, byte: u8)
+// Writes bytes that lie within one word of a frame, and leaves the word's others.
+fn write_in_word<P: FramePool>(
+    pool: &mut P,
+    seat: &mut P::Seat,
+    f: FrameNo,
+    at: usize,
+    bytes: &[u8],
+)
     requires seat { IsSeat P.world pool.old seat.old }
     requires frame { IsSoleAt (P.world.entries pool.old seat.old) f }
     requires at { at < PAGE_BYTES }
+    requires within { at % 8 + length bytes.now ≤ 8 }
     ensures entries { P.world.entries pool.new seat.new
         ≡ with_words (P.world.entries pool.old seat.old) f
         (words_at (P.world.entries pool.new seat.new) f) }
     ensures bytes { bytes_at (P.world.entries pool.new seat.new) f
-        ≡ slice_set (bytes_at (P.world.entries pool.old seat.old) f) at byte }
+        ≡ with_bytes (bytes_at (P.world.entries pool.old seat.old) f) at bytes.now }
     ensures met { P.world.met seat.new ≡ P.world.met seat.old }
     ensures moves { Moves P.world pool.old seat.old pool.new seat.new }
     ensures counts { SameCounts P.world pool.old pool.new }
 {
-    let word = pool.read(seat, f, at / 8);
-    let mut bytes = word.to_le_bytes();
-    bytes[(at % 8) as usize] = byte;
-    pool.write(seat, f, at / 8, u64::from_le_bytes(bytes));
+    let mut word = pool.read(seat, f, (at / 8) as u16).to_le_bytes();
+    let lane = at % 8;
+    word[lane..lane + bytes.len()].copy_from_slice(bytes);
+    pool.write(seat, f, (at / 8) as u16, u64::from_le_bytes(word));
 }
 
 /// The bytes of a frame from this offset on, 1 to 64 of them, none past the frame's end.
@@ -63,13 +78,19 @@ pub fn read_bytes<P: FramePool>(
     ensures counts { SameCounts P.world pool.old pool.new }
 {
     let mut bytes = [0u8; 64];
-    for i in 0..len {
-        bytes[i as usize] = read_byte(pool, seat, f, at + u16::from(i));
+    let count = len as usize;
+    let mut done = 0;
+    while done < count {
+        let place = at as usize + done;
+        let n = (8 - place % 8).min(count - done);
+        read_in_word(pool, seat, f, place, &mut bytes[done..done + n]);
+        done += n;
     }
-    Piece::new(&bytes[..len as usize]).unwrap()
+    Piece::new(&bytes[..count]).unwrap()
 }
 
-/// Writes bytes into a frame from this offset on, none past its end. The seat has the frame to itself.
+/// Writes bytes into a frame from this offset on, none past its end. The seat has the frame to
+/// itself.
 pub fn write_bytes<P: FramePool>(
     pool: &mut P,
     seat: &mut P::Seat,
@@ -89,7 +110,11 @@ pub fn write_bytes<P: FramePool>(
     ensures moves { Moves P.world pool.old seat.old pool.new seat.new }
     ensures counts { SameCounts P.world pool.old pool.new }
 {
-    for i in 0..bytes.len() {
-        write_byte(pool, seat, f, at + i as u16, bytes[i]);
+    let mut done = 0;
+    while done < bytes.len() {
+        let place = at as usize + done;
+        let n = (8 - place % 8).min(bytes.len() - done);
+        write_in_word(pool, seat, f, place, &bytes[done..done + n]);
+        done += n;
     }
 }

@@ -18,7 +18,8 @@ pub fn recount(held: &mut [u64; IDS], row: u8, before: bool, after: bool)
 /// All that a row has goes to another.
 pub fn recount_all(held: &mut [u64; IDS], from: u8, to: u8)
     requires rows { (from < IDS) × (to < IDS) × (from ≢ to) }
-    requires small { (slice_index held.old from ≤ MAX_FRAMES) × (slice_index held.old to ≤ MAX_FRAMES) }
+    requires small { (slice_index held.old from ≤ MAX_FRAMES)
+        × (slice_index held.old to ≤ MAX_FRAMES) }
     ensures to { slice_index held.new to ≡ slice_index held.old to + slice_index held.old from }
     ensures from { slice_index held.new from ≡ 0 }
     ensures others { (r : ℕ) → r ≢ from → r ≢ to → slice_index held.new r ≡ slice_index held.old r }

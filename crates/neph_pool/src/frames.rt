@@ -7,7 +7,8 @@ use neph_base::{MAX_FRAMES, NoMemory};
 use std::alloc::Global;
 use std::marker::Model;
 
-/// All frames: who holds each, and its words, which take memory from when they are first written.
+/// All frames: who holds each, and its words, which take memory from when one of them is first not
+/// 0.
 #[derive(Drop)]
 pub struct Frames {
     holders: Holders,
@@ -30,6 +31,7 @@ impl Model for Frames {
 impl Frames {
     ghost use Rattle.std.specs.Prelude.{◌≡◌, ◌<◌, ◌≤◌, length, replicate, slice_index, slice_set, IfOk};
     ghost use Rattle.neph_pool.specs.Frames.{blank_frame, frame_at};
+    ghost use Rattle.neph_pool.specs.Page.{blank_page};
 
     /// So many frames of zeros, which row 0 keeps.
     pub fn new(alloc: Global, frames: u32) -> Result<Frames, NoMemory>
@@ -82,6 +84,15 @@ impl Frames {
             (record (frame_at self.old f) { words = slice_set (frame_at self.old f).words w v }) }
     {
         self.pages.write(f, w, v);
+    }
+
+    /// All words of the frame `f` become 0.
+    pub fn blank(&mut self, f: usize)
+        requires { f < length self.old }
+        ensures { self.new
+            ≡ slice_set self.old f (record (frame_at self.old f) { words = blank_page }) }
+    {
+        self.pages.blank(f);
     }
 
     /// The frame `to` gets the words of the frame `from`.

@@ -18,7 +18,8 @@ pub struct Holders {
     pub ghost even: { length kinds.items ≡ length places.items },
     pub ghost within: { (f : ℕ) → slice_index places.items f < vec_len counts },
     pub ghost apart: { (f g : ℕ) → f ≢ g
-        → slice_index places.items f ≡ slice_index places.items g → slice_index places.items f ≡ 0 },
+        → slice_index places.items f ≡ slice_index places.items g
+        → slice_index places.items f ≡ 0 },
     pub ghost counted: { vec_len counts + unmade places.items ≡ length places.items + 1 },
     pub ghost room: { length places.items < vec_capacity counts },
     pub ghost small: { length places.items ≤ 16384 },

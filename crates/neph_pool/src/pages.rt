@@ -1,4 +1,4 @@
-// The words of all frames, made when they are first written.
+// The words of all frames. A page is made when a frame gets its first word that isn't 0.
 ghost use Rattle.std.specs.Prelude.{◌≡◌, ◌≢◌, ◌+◌, ◌<◌, ◌≤◌, ℕ, [], length, slice_index, slice_index_or, slice_set, replicate, vec_len, vec_capacity, IfOk, map};
 ghost use Rattle.neph_pool.specs.Page.{page_words, blank_page, unmade};
 
@@ -7,15 +7,16 @@ use crate::pool::FRAME_WORDS;
 use neph_base::{MAX_FRAMES, NoMemory};
 use std::alloc::Global;
 
-/// The words of all frames. A frame that was never written has no page of its own: its place is 0,
-/// where a page of zeros lies.
+/// The words of all frames. A frame that never had a word but 0 has no page of its own: its place
+/// is 0, where a page of zeros lies.
 #[derive(Drop)]
 pub struct Pages {
     places: Vec<u16>,
     made: Vec<Page>,
     pub ghost within: { (f : ℕ) → slice_index places.items f < vec_len made },
     pub ghost apart: { (f g : ℕ) → f ≢ g
-        → slice_index places.items f ≡ slice_index places.items g → slice_index places.items f ≡ 0 },
+        → slice_index places.items f ≡ slice_index places.items g
+        → slice_index places.items f ≡ 0 },
     pub ghost blank: { slice_index_or (page_words made.items) 0 [] ≡ blank_page },
     pub ghost counted: { vec_len made + unmade places.items ≡ length places.items + 1 },
     pub ghost room: { length places.items < vec_capacity made },
@@ -48,6 +49,25 @@ impl Pages {
         self.made[self.places[f] as usize].words[w]
     }
 
+    // A frame without a page of its own gets a copy of the page at the place `source`. Where the
+    // copy lies.
+    fn make(&mut self, f: usize, source: usize) -> usize
+        requires frame { f < frame_count self.old }
+        requires unmade { slice_index self.old.places.items f ≡ 0 }
+        requires page { source < vec_len self.old.made }
+        ensures place { result ≡ slice_index self.new.places.items f }
+        ensures own { result ≢ 0 }
+        ensures words { words_of self.new ≡ slice_set (words_of self.old) f
+            (slice_index_or (page_words self.old.made.items) source []) }
+        ensures frames { frame_count self.new ≡ frame_count self.old }
+    {
+        let next = self.made.len();
+        let words = self.made[source].words;
+        self.made.push_reserved(Page { words });
+        self.places[f] = next as u16;
+        next
+    }
+
     // Where the frame's own page lies. It is made, with the words that the frame has.
     fn own(&mut self, f: usize) -> usize
         requires { f < frame_count self.old }
@@ -60,13 +80,10 @@ impl Pages {
         if place > 0 {
             return place;
         }
-        let next = self.made.len();
-        self.made.push_reserved(Page { words: [0; 512] });
-        self.places[f] = next as u16;
-        next
+        self.make(f, 0)
     }
 
-    /// Writes the word `w` of the frame `f`.
+    /// Writes the word `w` of the frame `f`. A 0 makes no page for a frame that has none.
     pub fn write(&mut self, f: usize, w: usize, v: u64)
         requires frame { f < frame_count self.old }
         requires word { w < FRAME_WORDS }
@@ -74,8 +91,23 @@ impl Pages {
             (slice_set (slice_index_or (words_of self.old) f []) w v) }
         ensures frames { frame_count self.new ≡ frame_count self.old }
     {
+        if v == 0 && self.places[f] == 0 {
+            return;
+        }
         let place = self.own(f);
         self.made[place].words[w] = v;
+    }
+
+    /// All words of the frame `f` become 0. Without a page of its own it stays without one.
+    pub fn blank(&mut self, f: usize)
+        requires { f < frame_count self.old }
+        ensures words { words_of self.new ≡ slice_set (words_of self.old) f blank_page }
+        ensures frames { frame_count self.new ≡ frame_count self.old }
+    {
+        let place = self.places[f] as usize;
+        if place > 0 {
+            self.made[place].words = [0; 512];
+        }
     }
 
     /// The frame `to` gets the words of the frame `from`.
@@ -85,8 +117,17 @@ impl Pages {
             ≡ slice_set (words_of self.old) to (slice_index_or (words_of self.old) from []) }
         ensures frames { frame_count self.new ≡ frame_count self.old }
     {
-        let place = self.own(to);
-        let words = self.made[self.places[from] as usize].words;
-        self.made[place].words = words;
+        let source = self.places[from] as usize;
+        if source == 0 {
+            self.blank(to);
+            return;
+        }
+        let target = self.places[to] as usize;
+        if target == 0 {
+            self.make(to, source);
+            return;
+        }
+        let words = self.made[source].words;
+        self.made[target].words = words;
     }
 }

@@ -36,7 +36,7 @@ impl PlainPool {
 
     /// A pool of frames of zeros, with a seat that keeps all of them and has all 64 names. `frames`
     /// is 1 to 16384, and `cap`, the number of entries that a seat without the name 0 may have for
-    /// each name, 1 to 2048. Words take memory from when they are first written.
+    /// each name, 1 to 2048. The words of a frame take memory from when one of them is first not 0.
     pub fn new(alloc: Global, frames: u32, cap: u16) -> Result<(PlainPool, PlainSeat), NoMemory>
         requires frames { (1 ≤ frames) × (frames ≤ MAX_FRAMES) }
         requires cap { (1 ≤ cap) × (cap ≤ MAX_CAP) }
@@ -98,6 +98,10 @@ impl FramePool for PlainPool {
 
     fn write(&mut self, s: &mut PlainSeat, f: FrameNo, w: u16, v: u64) {
         self.frames.put_word(f.get() as usize, w as usize, v);
+    }
+
+    fn blank(&mut self, s: &mut PlainSeat, f: FrameNo) {
+        self.frames.blank(f.get() as usize);
     }
 
     fn copy(&mut self, s: &mut PlainSeat, from: FrameNo, to: FrameNo) {

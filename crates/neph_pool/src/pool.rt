@@ -3,6 +3,7 @@ ghost use Rattle.std.specs.Prelude.{◌≡◌, ◌≢◌, ◌+◌, ◌-◌, ◌*
 ghost use Rattle.neph_pool.specs.Entries.{word_at, words_at, with_word, with_words, with_hold, without, hold_at, is_here, IsHeldAt, IsSoleAt, IsZeroAt, IsOnceAt, IsShaped, entry_count};
 ghost use Rattle.neph_pool.specs.Handing.{MayHand, is_among, left_after, moved_into, AreWhole, add_entries};
 ghost use Rattle.neph_pool.specs.Names.{IsApart, IsCapped, both_names, without_name, lack_count};
+ghost use Rattle.neph_pool.specs.Page.{blank_page};
 ghost use Rattle.neph_pool.specs.World.{World, IsSeat, Spares, Stays, Moves, SameCounts, IsFresh, recounted};
 ghost use Rattle.neph_pool.specs.declared.entry.Hold.TheVariants.{Zero, Sole, Counted};
 
@@ -41,6 +42,16 @@ pub trait FramePool {
         requires word { w < FRAME_WORDS }
         ensures entries { world.entries self.new s.new
             ≡ with_word (world.entries self.old s.old) f w v }
+        ensures met { world.met s.new ≡ world.met s.old }
+        ensures moves { Moves world self.old s.old self.new s.new }
+        ensures counts { SameCounts world self.old self.new };
+
+    /// All words of the frame `f`, which the seat has to itself, become 0.
+    fn blank(&mut self, s: &mut Self::Seat, f: FrameNo)
+        requires seat { IsSeat world self.old s.old }
+        requires frame { IsSoleAt (world.entries self.old s.old) f }
+        ensures entries { world.entries self.new s.new
+            ≡ with_words (world.entries self.old s.old) f blank_page }
         ensures met { world.met s.new ≡ world.met s.old }
         ensures moves { Moves world self.old s.old self.new s.new }
         ensures counts { SameCounts world self.old self.new };

@@ -11,7 +11,7 @@ use Rattle.neph_ptab.specs.declared.walk.Walk.TheVariants.{None as Unmapped}
 use Rattle.neph_ptab.specs.Bits.{leaf_in, root_word, walk_in, walk_word, InRange, NotBoth}
 use Rattle.neph_ptab.specs.Tables.{leaf_at, walk_by, walk_at, IsTable, IsTables, zero_words}
 use Rattle.neph_ptab.proofs.Spelling.{leaf_back, walk_back}
-use Rattle.neph_ptab.proofs.Wiping.{zero_at}
+use Rattle.neph_ptab.proofs.Zeros.{zero_at}
 
 pub place_small : (v : ℕ) → v < 2 ^ 18 → v / 512 < 512
 place_small v h = omega arith

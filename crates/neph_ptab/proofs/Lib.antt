@@ -1,4 +1,4 @@
 pub mod Spelling
-pub mod Wiping
+pub mod Zeros
 pub mod Changing
 pub mod Retabling

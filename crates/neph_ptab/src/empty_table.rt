@@ -5,9 +5,10 @@ ghost use Rattle.neph_pool.specs.World.{World, IsSeat, Moves, SameCounts};
 ghost use Rattle.neph_ptab.specs.Tables.{zero_words};
 
 use neph_base::FrameNo;
-use neph_pool::{FRAME_WORDS, FramePool};
+use neph_pool::FramePool;
 
-/// Writes zeros into a whole frame.
+/// A frame becomes an empty table: all its words become 0.
+#[tactic(auto, unfolding(crate::specs::Tables::zero_words))]
 pub fn wipe<P: FramePool>(pool: &mut P, seat: &mut P::Seat, frame: FrameNo)
     requires seat { IsSeat P.world pool.old seat.old }
     requires frame { IsSoleAt (P.world.entries pool.old seat.old) frame }
@@ -17,7 +18,5 @@ pub fn wipe<P: FramePool>(pool: &mut P, seat: &mut P::Seat, frame: FrameNo)
     ensures moves { Moves P.world pool.old seat.old pool.new seat.new }
     ensures counts { SameCounts P.world pool.old pool.new }
 {
-    for w in 0..FRAME_WORDS {
-        pool.write(seat, frame, w, 0);
-    }
+    pool.blank(seat, frame);
 }

@@ -24,6 +24,7 @@ pub struct Tables<P: FramePool> {
     of: PhantomData<P>,
 }
 
+#[tactic(auto, using(neph_pool::proofs::Entries::entry_laws, neph_pool::proofs::Calls::call_laws))]
 impl<P: FramePool> Tables<P> {
     /// Tables that map nothing and have no leaf, with this frame as the root.
     pub fn new(pool: &mut P, seat: &mut P::Seat, root: FrameNo) -> Tables<P>
@@ -49,7 +50,6 @@ impl<P: FramePool> Tables<P> {
     }
 
     /// The leaf table for a virtual page, `None` exactly where there is none.
-    #[tactic(auto, using(neph_pool::proofs::Entries::entry_laws, neph_pool::proofs::Calls::call_laws))]
     pub fn leaf(&self, pool: &mut P, seat: &mut P::Seat, v: Vpn) -> Option<FrameNo>
         requires seat { IsSeat P.world pool.old seat.old }
         requires stands { IsTables (P.world.entries pool.old seat.old) self.now.root }
@@ -83,7 +83,6 @@ impl<P: FramePool> Tables<P> {
     }
 
     /// What the tables say of a virtual page, `Walk::None` exactly where nothing is mapped.
-    #[tactic(auto, using(neph_pool::proofs::Entries::entry_laws, neph_pool::proofs::Calls::call_laws))]
     pub fn walk(&self, pool: &mut P, seat: &mut P::Seat, v: Vpn) -> Walk
         requires seat { IsSeat P.world pool.old seat.old }
         requires stands { IsTables (P.world.entries pool.old seat.old) self.now.root }
@@ -101,7 +100,6 @@ impl<P: FramePool> Tables<P> {
     }
 
     /// Whether a leaf table is missing for this virtual page.
-    #[tactic(auto, using(neph_pool::proofs::Entries::entry_laws, neph_pool::proofs::Calls::call_laws))]
     pub fn needs_leaf(&self, pool: &mut P, seat: &mut P::Seat, v: Vpn) -> bool
         requires seat { IsSeat P.world pool.old seat.old }
         requires stands { IsTables (P.world.entries pool.old seat.old) self.now.root }
@@ -117,7 +115,6 @@ impl<P: FramePool> Tables<P> {
     }
 
     /// Makes an empty leaf table, in this frame, where one is missing.
-    #[tactic(auto, using(neph_pool::proofs::Entries::entry_laws, neph_pool::proofs::Calls::call_laws))]
     pub fn add_leaf(&mut self, pool: &mut P, seat: &mut P::Seat, v: Vpn, frame: FrameNo)
         requires seat { IsSeat P.world pool.old seat.old }
         requires stands { IsTables (P.world.entries pool.old seat.old) self.old.root }
@@ -154,7 +151,6 @@ impl<P: FramePool> Tables<P> {
 
     /// Makes a virtual page lead there. Its leaf table must be there. A local page can't be both
     /// writable at once and shared.
-    #[tactic(auto, using(neph_pool::proofs::Entries::entry_laws, neph_pool::proofs::Calls::call_laws))]
     pub fn set(&mut self, pool: &mut P, seat: &mut P::Seat, v: Vpn, to: Walk)
         requires seat { IsSeat P.world pool.old seat.old }
         requires stands { IsTables (P.world.entries pool.old seat.old) self.old.root }
@@ -182,7 +178,6 @@ impl<P: FramePool> Tables<P> {
     }
 
     /// Makes a virtual page lead nowhere. Without a leaf table it does already.
-    #[tactic(auto, using(neph_pool::proofs::Entries::entry_laws, neph_pool::proofs::Calls::call_laws))]
     pub fn clear(&mut self, pool: &mut P, seat: &mut P::Seat, v: Vpn)
         requires seat { IsSeat P.world pool.old seat.old }
         requires stands { IsTables (P.world.entries pool.old seat.old) self.old.root }
