@@ -1,3 +1,3 @@
 pub mod Rising
-pub mod Lists
 pub mod Sets
+pub mod Unaliased

@@ -1,5 +1,5 @@
 -- Rising lists of numbers.
-use Rattle.std.proofs.Common.{◌≡◌, ◌≢◌, ℕ, zero, suc, ◌+◌, ◌<◌, ◌≤◌, ◌⊎◌, inl, inr, Bool, true, false, List, [], ◌∷◌, length, set, get_or, insert, remove, refl, ap, ◌∙◌, arith, ◌==◌, nat_lt, if◌then◌else◌, eq-eqb, ne_eqb}
+use Rattle.std.proofs.Common.{◌≡◌, ◌≢◌, ℕ, zero, suc, ◌+◌, ◌<◌, ◌≤◌, ◌⊎◌, inl, inr, Bool, true, false, List, [], ◌∷◌, length, get_or, insert, remove, refl, ap, ◌∙◌, arith, ◌==◌, nat_lt, if◌then◌else◌, Result, Ok, Err, OnOk, OnErr, eq-eqb, ne_eqb}
 use Rattle.std.proofs.lemmas.Bool.Decides.{nat_tests}
 use Rattle.neph_gmap.specs.GuestPages.{IsRisingFrom, IsRising, with_number, without_number}
 
@@ -138,10 +138,7 @@ rising_without_from b v (x ∷ xs) h = rising_without_by (x == v) b v x xs refl 
 pub rising_without : (v : ℕ) (xs : List ℕ) → IsRising xs → IsRising (without_number v xs)
 rising_without v xs h = rising_without_from 0 v xs h
 
--- one list of many changes
-pub all_rising : (rows : List (List ℕ)) (p : ℕ) (xs : List ℕ) → ((q : ℕ) → IsRising (get_or rows q [])) → IsRising xs → (q : ℕ) → IsRising (get_or (set rows p xs) q [])
-all_rising [] p xs h r q = h q
-all_rising (row ∷ rows) zero xs h r zero = r
-all_rising (row ∷ rows) zero xs h r (suc q) = h (suc q)
-all_rising (row ∷ rows) (suc p) xs h r zero = h zero
-all_rising (row ∷ rows) (suc p) xs h r (suc q) = all_rising rows p xs (λ k. h (suc k)) r q
+-- a number was added, or nothing changed
+pub rising_added : {T E : Type 0} (r : Result T E) (new old : List ℕ) (v : ℕ) → OnOk r (new ≡ with_number v old) → OnErr r (new ≡ old) → IsRising old → IsRising new
+rising_added (Ok t) new old v ok err h = rw ok (rising_with v old h)
+rising_added (Err e) new old v ok err h = rw err h

@@ -1,5 +1,5 @@
 -- A guest's pages by their own numbers: where each lies, and at which virtual pages it is mapped.
-use Rattle.std.specs.Prelude.{◌==◌, ◌+◌, ◌≤◌, ℕ, Bool, false, List, [], ◌∷◌, filter, not, nat_lt, position, slice_index_or, if◌then◌else◌, ⊤}
+use Rattle.std.specs.Prelude.{◌≡◌, ◌==◌, ◌+◌, ◌≤◌, ℕ, Bool, false, List, [], ◌∷◌, Some, filter, not, nat_lt, position, slice_get, slice_index_or, if◌then◌else◌, ⊤}
 use Rattle.std.specs.List.{list_any}
 use Rattle.std.specs.declared.option.Option.{Option}
 use Rattle.neph_gmap.specs.declared.page.Page.{Page}
@@ -22,6 +22,11 @@ lies_in f Exposed = false
 -- the first page that lies in the frame f
 abbrev pub page_in : ℕ → List Page → Option ℕ
 page_in f pages = position (lies_in f) pages
+
+-- no two pages lie in one frame
+abbrev pub IsUnaliased : List Page → Type 0
+IsUnaliased pages = (p q f : ℕ) → slice_get pages p ≡ Some (Local f)
+    → slice_get pages q ≡ Some (Local f) → p ≡ q
 
 -- each number is at least so large, and above the one before
 abbrev pub IsRisingFrom : ℕ → List ℕ → Type 0

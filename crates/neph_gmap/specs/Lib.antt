@@ -1,1 +1,2 @@
 pub mod GuestPages
+pub mod Kept

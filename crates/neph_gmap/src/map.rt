@@ -1,10 +1,11 @@
 // The map of a guest's pages.
-ghost use Rattle.std.specs.Prelude.{◌≡◌, ◌<◌, ◌≤◌, ℕ, [], IfOk, IfSome, OnOk, OnErr, length, replicate, slice_get, slice_set};
-ghost use Rattle.neph_gmap.specs.GuestPages.{vpns_at, page_in, IsRising, with_number, without_number};
+ghost use Rattle.std.specs.Prelude.{◌≡◌, ◌<◌, ◌≤◌, ℕ, [], None, Some, IfOk, IfSome, OnOk, OnErr, length, replicate, slice_get, slice_set};
+ghost use Rattle.neph_gmap.specs.GuestPages.{vpns_at, page_in, IsUnaliased, IsRising, with_number, without_number};
 
-use crate::numbers::{add_number, drop_number};
+use crate::homes::{note_home, place_in};
 use crate::page::Page;
-use neph_base::{FrameNo, MAX_PAGES, NoMemory, Pfn, Vpn};
+use crate::vpns::Vpns;
+use neph_base::{FrameNo, MAX_FRAMES, MAX_PAGES, NoMemory, Pfn, Vpn};
 use std::alloc::Global;
 use std::marker::Model;
 
@@ -13,32 +14,26 @@ use std::marker::Model;
 #[derive(Drop)]
 pub struct GuestMap {
     pages: Vec<Page>,
-    vpns: Vec<Vec<Vpn>>,
+    vpns: Vec<Vpns>,
+    // By frame number, the page that was last put there: a hint, and nothing rests on it.
+    homes: Vec<u16>,
 }
 
 impl Model for GuestMap {
-    ghost use Rattle.std.specs.Prelude.{◌≡◌, ◌≤◌, ℕ, [], map, vec_len, slice_index_or};
-    ghost use Rattle.neph_base.specs.declared.sizes.TheConstants.{MAX_PAGES};
-    ghost use Rattle.neph_gmap.specs.GuestPages.{GuestPages, IsRising};
+    ghost use Rattle.std.specs.Prelude.{◌≡◌, ◌≤◌, vec_len};
+    ghost use Rattle.neph_base.specs.declared.sizes.TheConstants.{MAX_FRAMES, MAX_PAGES};
+    ghost use Rattle.neph_gmap.specs.GuestPages.{GuestPages};
 
     ghost Value = { GuestPages };
 
     ghost view = { λ m. record {
       pages = m.pages.items;
-      vpns = map (λ v. v.items) m.vpns.items;
+      vpns = m.vpns.items;
     } };
 
     ghost invariant = { λ m. (vec_len m.vpns ≡ vec_len m.pages)
-        × ((p : ℕ) → IsRising (slice_index_or (map (λ v. v.items) m.vpns.items) p []))
-        × (vec_len m.pages ≤ MAX_PAGES) };
-}
-
-// The place of the first page that lies in this frame.
-fn first_in(pages: &[Page], f: FrameNo) -> Option<usize>
-    ensures place { result ≡ page_in f pages.now }
-    ensures bound { IfSome result (λ n. n < length pages.now) }
-{
-    pages.iter().position(|page| page.lies_in(f))
+        × (vec_len m.pages ≤ MAX_PAGES)
+        × (vec_len m.homes ≡ MAX_FRAMES) };
 }
 
 impl GuestMap {
@@ -54,11 +49,14 @@ impl GuestMap {
         let mut vpns = Vec::with_capacity(alloc, pages as usize)?;
         for _p in 0..pages {
             places.push(Page::Exposed)?;
-            vpns.push(Vec::new(alloc))?;
+            vpns.push(Vpns::new())?;
         }
+        let mut homes = Vec::new(alloc);
+        homes.resize(MAX_FRAMES, 0u16)?;
         Ok(GuestMap {
             pages: places,
             vpns,
+            homes,
         })
     }
 
@@ -77,11 +75,13 @@ impl GuestMap {
         self.pages.len()
     }
 
-    /// The first page that lies in this frame, `None` exactly where none does.
+    /// A page that lies in this frame, `None` exactly where none does.
     pub fn page_in(&self, f: FrameNo) -> Option<Pfn>
-        ensures { result ≡ page_in f self.now.pages }
+        ensures there { IfSome result (λ p. slice_get self.now.pages p ≡ Some (Page.Local f)) }
+        ensures none { result ≡ None → page_in f self.now.pages ≡ None }
+        ensures first { IsUnaliased self.now.pages → result ≡ page_in f self.now.pages }
     {
-        match first_in(&self.pages, f) {
+        match place_in(&self.pages, &self.homes, f) {
             Some(place) => Pfn::new(place as u32),
             None => None,
         }
@@ -92,6 +92,7 @@ impl GuestMap {
         requires { p < length self.old.pages }
         ensures { self.new ≡ record self.old { pages = slice_set self.old.pages p to } }
     {
+        note_home(&mut self.homes, p, &to);
         self.pages[p.get() as usize] = to;
     }
 
@@ -102,7 +103,7 @@ impl GuestMap {
     {
         let place = p.get() as usize;
         if place < self.vpns.len() {
-            &self.vpns[place]
+            self.vpns[place].numbers()
         } else {
             &[]
         }
@@ -116,8 +117,9 @@ impl GuestMap {
         }) }
         ensures err { OnErr result (self.new ≡ self.old) }
     {
+        let alloc = *self.vpns.allocator();
         let list = &mut self.vpns[p.get() as usize];
-        add_number(list, v)
+        list.add(alloc, v)
     }
 
     /// Notes that a virtual page is not mapped to a page.
@@ -129,7 +131,7 @@ impl GuestMap {
         let place = p.get() as usize;
         if place < self.vpns.len() {
             let list = &mut self.vpns[place];
-            drop_number(list, v);
+            list.remove(v);
         }
     }
 }

@@ -15,10 +15,10 @@ use Rattle.neph_base.specs.declared.command.Mode.TheVariants.{Ro, Rw}
 use Rattle.neph_memory.specs.declared.touch.Touch.TheVariants as touch
 use Rattle.neph_memory.specs.declared.write.WriteStep.{WriteStep}
 use Rattle.neph_memory.specs.declared.write.WriteStep.TheVariants as step
-use Rattle.neph_memory.proofs.Places.{page_in_at, away_none}
+use Rattle.neph_memory.proofs.Places.{page_in_at, frame_there, away_none}
 use Rattle.neph_pool.specs.Bytes.{bytes_at}
 use Rattle.neph_memory.specs.Pages.{frame_at}
-use Rattle.neph_gmap.specs.GuestPages.{page_in}
+use Rattle.neph_gmap.specs.GuestPages.{page_in, IsUnaliased}
 use Rattle.neph_memory.specs.Memory.{mode_of, mapping, pfn_by, wanted_by, vpn_mapping, bytes_for, page_bytes, IsPageAt, LeadsTo, IsMemory}
 use Rattle.neph_memory.specs.Steps.{read_answer, read_page, IsStepOn, IsWriteStep}
 
@@ -35,6 +35,13 @@ held_once (Some (Counted n)) e = refl
 module _ (es : List (Option Entry)) (root : ℕ) (o : Own) (m : IsMemory es root o) where
   pub on : (p f : ℕ) → frame_at o.map.pages p ≡ Some f → page_in f o.map.pages ≡ Some p
   on p f e = page_in_at o.map.pages p f e (λ q h. m.made.apart q p f h e)
+
+  pub unaliased : IsUnaliased o.map.pages
+  unaliased p q f a b = m.made.apart p q f (frame_there o.map.pages p f a) (frame_there o.map.pages q f b)
+
+  -- the page that was found in a frame
+  pub found : (p f : ℕ) (r : Option ℕ) → (IsUnaliased o.map.pages → r ≡ page_in f o.map.pages) → frame_at o.map.pages p ≡ Some f → r ≡ Some p
+  found p f r first e = first unaliased ∙ on p f e
 
   pub leads : (v : ℕ) (w : Walk) → v < 2 ^ 18 → walk_at es root v ≡ w → LeadsTo es o w
   leads v w lt e = subst (LeadsTo es o) e (m.made.walks v lt)

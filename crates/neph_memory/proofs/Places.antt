@@ -39,6 +39,10 @@ pub away_none : (ps : List Page) (p : ℕ) → slice_get ps p ≡ Some Exposed �
 unfolding frame_at
 away_none ps p e = ap frame_of e
 
+pub frame_there : (ps : List Page) (p f : ℕ) → slice_get ps p ≡ Some (Local f) → frame_at ps p ≡ Some f
+unfolding frame_at
+frame_there ps p f e = ap frame_of e
+
 none_some : (x : Option ℕ) (f : ℕ) → x ≡ None → x ≡ Some f → ⊥
 none_some x f a b = cc
 

@@ -1,6 +1,7 @@
 // What a domain's memory tells.
 ghost use Rattle.std.specs.Prelude.{◌≡◌, ◌≢◌, ◌/◌, ◌+◌, ◌<◌, ◌^◌, ◌↔◌, ℕ, true, false, IsSome, IsTrue, is_some, length, option_map};
 ghost use Rattle.neph_pool.specs.World.{World, SameCounts};
+ghost use Rattle.neph_gmap.specs.GuestPages.{IsUnaliased};
 ghost use Rattle.neph_memory.specs.Pages.{frame_at};
 ghost use Rattle.neph_memory.specs.Memory.{is_marked, mapping, mode_of, pfn_by, wanted_by};
 ghost use Rattle.neph_memory.specs.Domains.{IsStanding, domain_mapping, domain_leaf, KeepsPages, KeepsMap, KeepsLeaves, KeepsSeats, IsUnchanged, IfTold, IsSharedPage};
@@ -15,6 +16,7 @@ use neph_ptab::Walk;
 
 // What a walk of these pages' tables means.
 fn mapping_in(map: &GuestMap, walk: Walk) -> Option<Mapping>
+    requires { IsUnaliased map.now.pages }
     ensures { result ≡ mapping (pfn_by map.now.pages walk) (wanted_by walk) }
 {
     match walk {

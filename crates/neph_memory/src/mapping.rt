@@ -1,6 +1,7 @@
 // Mapping and unmapping of pages.
 ghost use Rattle.std.specs.Prelude.{◌≡◌, is_some, None, ◌+◌, ◌/◌, ◌<◌, ◌≤◌, ◌^◌, ◌==◌, ◌↔◌, ℕ, true, Some, IsSome, IsTrue, IfSome, OnOk, OnErr, length, if◌then◌else◌};
 ghost use Rattle.neph_pool.specs.World.{World, SameCounts};
+ghost use Rattle.neph_gmap.specs.GuestPages.{IsUnaliased};
 ghost use Rattle.neph_memory.specs.Memory.{mode_of, pfn_by};
 ghost use Rattle.neph_memory.specs.Mapped.{is_bad_page, IsMapAnswer, leaf_after_map, spare_after_map, with_vpn, without_old_vpn};
 ghost use Rattle.neph_memory.specs.Domains.{IsStanding, domain_mapping, domain_walk, domain_leaf, domain_leaf_count, KeepsPages, KeepsMap, KeepsLeaves, KeepsSeats};
@@ -16,6 +17,7 @@ use neph_ptab::Walk;
 
 // The page to which a walk leads.
 fn page_by(map: &GuestMap, walk: Walk) -> Option<Pfn>
+    requires { IsUnaliased map.now.pages }
     ensures { result ≡ pfn_by map.now.pages walk }
 {
     match walk {

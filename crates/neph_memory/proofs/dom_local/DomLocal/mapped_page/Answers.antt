@@ -2,13 +2,16 @@ use Rattle.std.proofs.Common.{List, ap}
 use Rattle.std.specs.declared.option.Option.{Option}
 use Rattle.neph_pool.specs.declared.entry.Entry.{Entry}
 use Rattle.neph_ptab.specs.Tables.{leaf_at}
-use Rattle.neph_memory.proofs.Leading.{named}
+use Rattle.neph_memory.proofs.Leading.{named, unaliased}
 use Rattle.neph_memory.proofs.Standing.{stands_moved}
 use Rattle.neph_memory.specs.Memory.{vpn_mapping, page_bytes, leaf_count}
 use Rattle.neph_memory.proofs.dom_local.DomLocal.mapped_page.Goals as goal
 
 pub walk-walk-requires-clause-seat : goal.walk-walk-requires-clause-seat
 walk-walk-requires-clause-seat g c = (c.requires.stands.fits, named _ _ c.requires.stands.names)
+
+pub page_by-requires : goal.page_by-requires
+page_by-requires g c = unaliased _ _ c.args.self.now.own c.requires.stands.memory
 
 pub returns-clause-stands : goal.returns-clause-stands
 returns-clause-stands g c = stands_moved _ _ _ _ _ _ _ _ c.requires.stands c.walk-walk.ensures.moves c.walk-walk.ensures.entries

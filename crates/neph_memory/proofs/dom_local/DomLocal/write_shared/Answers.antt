@@ -4,7 +4,7 @@ use Rattle.std.specs.Vec.{with_item}
 use Rattle.std.specs.declared.option.Option.{Option}
 use Rattle.neph_pool.proofs.Calls.{moves_trans}
 use Rattle.neph_memory.proofs.Rooming.{room_after}
-use Rattle.neph_memory.proofs.Leading.{named, on}
+use Rattle.neph_memory.proofs.Leading.{named, found}
 use Rattle.neph_memory.proofs.Places.{frame_small, some_same}
 use Rattle.neph_memory.proofs.Standing.{found_some, found_at, look_true, leaf_words}
 use Rattle.neph_memory.proofs.Looking.{look_here, look_mark, look_words, look_shown, look_bytes, look_memory}
@@ -17,20 +17,20 @@ use Rattle.neph_memory.proofs.dom_local.DomLocal.write_shared.Goals as goal
 pub unwrap-pfn-requires : goal.unwrap-pfn-requires
 unwrap-pfn-requires g c =
     let at = c.requires.page in
-    found_some c.page_in.result at.0 (c.page_in.ensures ∙ on (g.P.FramePool.world.entries c.args.pool.now c.args.self.now.seat) c.args.self.now.tables.root c.args.self.now.own c.requires.stands.memory at.0 c.args.frame at.1)
+    found_some c.page_in.result at.0 (found (g.P.FramePool.world.entries c.args.pool.now c.args.self.now.seat) c.args.self.now.tables.root c.args.self.now.own c.requires.stands.memory at.0 c.args.frame c.page_in.result c.page_in.ensures.first at.1)
 
 pub look-requires-clause-seat : goal.look-requires-clause-seat
 look-requires-clause-seat g c = (c.requires.stands.fits, named _ _ c.requires.stands.names)
 
 pub index_mut-requires : goal.index_mut-requires
 index_mut-requires g c =
-    let at = found_at c.args.self.now.own.map.pages c.args.frame c.requires.page.0 c.unwrap-pfn.result c.page_in.result (c.page_in.ensures ∙ on (g.P.FramePool.world.entries c.args.pool.now c.args.self.now.seat) c.args.self.now.tables.root c.args.self.now.own c.requires.stands.memory c.requires.page.0 c.args.frame c.requires.page.1) c.unwrap-pfn.ensures c.requires.page.1 in
+    let at = found_at c.args.self.now.own.map.pages c.args.frame c.requires.page.0 c.unwrap-pfn.result c.page_in.result (found (g.P.FramePool.world.entries c.args.pool.now c.args.self.now.seat) c.args.self.now.tables.root c.args.self.now.own c.requires.stands.memory c.requires.page.0 c.args.frame c.page_in.result c.page_in.ensures.first c.requires.page.1) c.unwrap-pfn.ensures c.requires.page.1 in
     let small = frame_small c.args.self.now.own.map.pages c.unwrap-pfn.result c.args.frame at in
     omega (arith, small, c.get.ensures.value, c.requires.stands.memory.made.marks, c.args.self.now.own.marks.ok.0)
 
 pub write_frame-requires-clause-stands : goal.write_frame-requires-clause-stands
 write_frame-requires-clause-stands g c =
-    let at = found_at c.args.self.now.own.map.pages c.args.frame c.requires.page.0 c.unwrap-pfn.result c.page_in.result (c.page_in.ensures ∙ on (g.P.FramePool.world.entries c.args.pool.now c.args.self.now.seat) c.args.self.now.tables.root c.args.self.now.own c.requires.stands.memory c.requires.page.0 c.args.frame c.requires.page.1) c.unwrap-pfn.ensures c.requires.page.1 in record {
+    let at = found_at c.args.self.now.own.map.pages c.args.frame c.requires.page.0 c.unwrap-pfn.result c.page_in.result (found (g.P.FramePool.world.entries c.args.pool.now c.args.self.now.seat) c.args.self.now.tables.root c.args.self.now.own c.requires.stands.memory c.requires.page.0 c.args.frame c.page_in.result c.page_in.ensures.first c.requires.page.1) c.unwrap-pfn.ensures c.requires.page.1 in record {
       fits = c.look.ensures.moves.fits;
       names = c.look.ensures.moves.names ∙ c.requires.stands.names;
       room = room_after _ _ c.args.self.now.tables.root c.args.self.now.tables.root (length c.args.self.now.own.map.pages) (length c.args.self.now.own.map.pages) _ _ c.requires.stands.room refl
@@ -66,7 +66,7 @@ held_write p at bytes = Some (record { pfn = p; at = at; bytes = bytes })
 
 pub returns-else-look-clause-hand : goal.returns-else-look-clause-hand
 returns-else-look-clause-hand g c = λ p at.
-    let here = c.page_in.ensures ∙ on (g.P.FramePool.world.entries c.args.pool.now c.args.self.now.seat) c.args.self.now.tables.root c.args.self.now.own c.requires.stands.memory p c.args.frame at in
+    let here = found (g.P.FramePool.world.entries c.args.pool.now c.args.self.now.seat) c.args.self.now.tables.root c.args.self.now.own c.requires.stands.memory p c.args.frame c.page_in.result c.page_in.ensures.first at in
     let same : c.unwrap-pfn.result ≡ p = some_same _ _ (sym c.unwrap-pfn.ensures ∙ here) in
     ap (λ (k : ℕ). held_write k c.args.at c.args.bytes.now) same
 
@@ -79,7 +79,7 @@ returns-then-look-clause-leaves g c = λ i l.
 pub returns-then-look-clause-alone : goal.returns-then-look-clause-alone
 returns-then-look-clause-alone g c = λ t p at.
     let es = g.P.FramePool.world.entries c.args.pool.now c.args.self.now.seat in
-    let here = c.page_in.ensures ∙ on es c.args.self.now.tables.root c.args.self.now.own c.requires.stands.memory p c.args.frame at in
+    let here = found es c.args.self.now.tables.root c.args.self.now.own c.requires.stands.memory p c.args.frame c.page_in.result c.page_in.ensures.first at in
     let same : c.unwrap-pfn.result ≡ p = some_same _ _ (sym c.unwrap-pfn.ensures ∙ here) in
     let marks = with_item c.args.self.now.own.marks c.get.result true in
     ap (λ (o : Own). is_marked o p) c.write_frame.ensures.own
