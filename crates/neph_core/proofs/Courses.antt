@@ -1,8 +1,6 @@
 -- Turns and rounds, one after another.
-use Rattle.std.proofs.Common.{◌≡◌, ℕ, suc, ◌+◌, ◌-◌, ◌<◌, ◌≤◌, map, Bool, true, false, cond, ◌||◌, List, [], ◌∷◌, ◌++◌, length, get_or, drop, Some, refl, sym, ap, ◌∙◌, arith, append_assoc}
-use Rattle.std.specs.List.{range_with_len}
+use Rattle.std.proofs.Common.{◌≡◌, ℕ, suc, ◌+◌, ◌<◌, Bool, true, false, cond, ◌||◌, List, [], ◌∷◌, ◌++◌, length, get_or, drop, Some, refl, sym, ap, ◌∙◌, arith, append_assoc}
 use Rattle.std.proofs.lemmas.Bool.{or_parts}
-use Rattle.std.proofs.lemmas.List.FromFn.{map-range_with_len_more}
 use Rattle.std.proofs.lemmas.List.{append-nil, drop_more, drop_all}
 use Rattle.neph_base.specs.declared.reply.Actor.{Actor}
 use Rattle.neph_base.specs.declared.reply.Actor.TheVariants as actor
@@ -59,7 +57,7 @@ at_start first actors =
     let none : 0 + d.steps ≡ d.steps = omega arith in
     record { script = refl; noted = []; steps = 0; history = sym (append-nil first.history); shares = ap counted (omega arith); whole = ap (λ (n : ℕ). record d { steps = n }) none }
 
-ends : (first : Course) (actors : List Actor) (now : Course) (moved : Bool) (rest : List Actor) → SoFar first actors now moved rest → turns first.script now.state rest ≡ nothing now.state
+pub ends : (first : Course) (actors : List Actor) (now : Course) (moved : Bool) (rest : List Actor) → SoFar first actors now moved rest → turns first.script now.state rest ≡ nothing now.state
     → Does first now (turns first.script first.state actors) moved
 ends first actors now moved rest so_far idle =
     let a : Done = record { state = now.state; moved = moved; noted = so_far.noted; steps = so_far.steps } in
@@ -72,7 +70,7 @@ ends first actors now moved rest so_far idle =
       history = so_far.history ∙ ap (λ (xs : List Noted). first.history ++ xs) (sym (append-nil so_far.noted) ∙ ap (λ (d : Done). d.noted) whole);
     }
 
-turns_over : (s : Script) (st : State) (xs : List Actor) → is_over st.machine ≡ true → turns s st xs ≡ nothing st
+pub turns_over : (s : Script) (st : State) (xs : List Actor) → is_over st.machine ≡ true → turns s st xs ≡ nothing st
 turns_over s st [] e = refl
 turns_over s st (a ∷ xs) e = rw e refl
 
@@ -84,15 +82,17 @@ pub ends_all : (first : Course) (actors : List Actor) (now : Course) (moved : Bo
     → Does first now (turns first.script first.state actors) moved
 ends_all first actors now moved n so_far e = ends first actors now moved (drop n actors) so_far (ap (turns first.script now.state) (drop_all n actors (omega arith)))
 
-pub one_more : (first : Course) (actors : List Actor) (now next : Course) (moved did : Bool) (n : ℕ) (a : Actor) → n < length actors → a ≡ get_or actors n a → is_over now.state.machine ≡ false
-    → SoFar first actors now moved (drop n actors) → Does now next (turn now.script now.state a) did → SoFar first actors next (moved || did) (drop (n + 1) actors)
-one_more first actors now next moved did n actor lt is live so_far step =
+-- the next of some actors
+pub next_actor : (actors : List Actor) (n : ℕ) (a : Actor) → n < length actors → a ≡ get_or actors n a → drop n actors ≡ a ∷ drop (n + 1) actors
+next_actor actors n a lt is = drop_more actors n a lt ∙ ap (λ (x : Actor). x ∷ drop (n + 1) actors) (sym is)
+
+pub one_more : (first : Course) (actors : List Actor) (now next : Course) (moved did : Bool) (a : Actor) (rest later : List Actor) → rest ≡ a ∷ later → is_over now.state.machine ≡ false
+    → SoFar first actors now moved rest → Does now next (turn now.script now.state a) did → SoFar first actors next (moved || did) later
+one_more first actors now next moved did actor rest later is live so_far step =
     let one = turn first.script now.state actor in
     let same : turn now.script now.state actor ≡ one = ap (λ (s : Script). turn s now.state actor) so_far.script in
-    let later = drop (n + 1) actors in
     let a : Done = record { state = now.state; moved = moved; noted = so_far.noted; steps = so_far.steps } in
-    let rest : drop n actors ≡ actor ∷ later = drop_more actors n actor lt ∙ ap (λ (x : Actor). x ∷ later) (sym is) in
-    let more : turns first.script now.state (drop n actors) ≡ before one (turns first.script one.state later) = rw (rest, live) refl in
+    let more : turns first.script now.state rest ≡ before one (turns first.script one.state later) = rw (is, live) refl in
     let joined : before (before a one) (turns first.script one.state later) ≡ turns first.script first.state actors =
     before_assoc a one (turns first.script one.state later) ∙ ap (before a) (sym more) ∙ so_far.whole in
     let state : next.state ≡ one.state = step.state ∙ ap (λ (d : Done). d.state) same in
@@ -106,6 +106,13 @@ one_more first actors now next moved did n actor lt is live so_far step =
       shares = counted_more first.shares so_far.steps now.shares one.steps next.shares so_far.shares (step.shares ∙ ap (λ (d : Done). counted (now.shares + d.steps)) same);
       whole = rw (state, told) joined;
     }
+
+-- turns at the head of the rest that do nothing may be passed over
+pub passes : (first : Course) (actors : List Actor) (now : Course) (moved : Bool) (rest later : List Actor) → turns first.script now.state rest ≡ turns first.script now.state later
+    → SoFar first actors now moved rest → SoFar first actors now moved later
+passes first actors now moved rest later same so_far =
+    let a : Done = record { state = now.state; moved = moved; noted = so_far.noted; steps = so_far.steps } in
+    record { script = so_far.script; noted = so_far.noted; steps = so_far.steps; history = so_far.history; shares = so_far.shares; whole = ap (before a) (sym same) ∙ so_far.whole }
 
 -- a turn that did nothing makes no entry and no page step
 abbrev IsIdle : Done → Type 0
@@ -222,16 +229,3 @@ at_end s now so_far over =
     let r : Ran = record { last = now.state; stalled = false; history = now.history; steps = so_far.steps } in
     let last : rounds 1 s now.state now.history so_far.steps ≡ Some r = rw over refl in
     record { ran = r; run = record { count = so_far.count + 1; ends = so_far.on 1 ∙ last }; ended = refl; script = so_far.script; last = refl; entries = refl; steps = so_far.shares }
-
--- one more domain of a round
-pub doms_more : (xs : List Actor) (n id : ℕ) → 1 ≤ n → id ≡ n → xs ≡ map (λ x. actor.Dom x) (range_with_len 1 (n - 1)) → xs ++ actor.Dom id ∷ [] ≡ map (λ x. actor.Dom x) (range_with_len 1 (n + 1 - 1))
-doms_more xs n id le is e =
-    let k : n + 1 - 1 ≡ n - 1 + 1 = omega arith in
-    ap (λ (ys : List Actor). ys ++ actor.Dom id ∷ []) e ∙ ap (λ i. map (λ x. actor.Dom x) (range_with_len 1 (n - 1)) ++ actor.Dom i ∷ []) is
-    ∙ sym (map-range_with_len_more (λ x. actor.Dom x) 1 (n - 1) n (omega arith)) ∙ ap (λ i. map (λ x. actor.Dom x) (range_with_len 1 i)) (sym k)
-
-pub is_round : (xs : List Actor) (n : ℕ) → n ≡ 64 → xs ≡ map (λ x. actor.Dom x) (range_with_len 1 (n - 1)) → xs ++ actor.Daemon ∷ actor.Console ∷ actor.Net ∷ actor.P9 ∷ [] ≡ round
-unfolding round
-is_round xs n is e =
-    let k : n - 1 ≡ 63 = omega arith in
-    ap (λ (ys : List Actor). ys ++ actor.Daemon ∷ actor.Console ∷ actor.Net ∷ actor.P9 ∷ []) (e ∙ ap (λ i. map (λ x. actor.Dom x) (range_with_len 1 i)) k)

@@ -1,20 +1,21 @@
 -- Machines that stand for the states of a script's run, and their courses.
-use Rattle.std.proofs.Common.{◌≡◌, ℕ, ◌<◌, ◌+◌, ◌++◌, ◌||◌, Bool, true, false, List, [], ◌∷◌, length, get_or, drop, refl, sym, ap, subst, ◌∙◌}
+use Rattle.std.proofs.Common.{◌≡◌, ℕ, ◌<◌, ◌+◌, ◌++◌, ◌||◌, ◌&&◌, ◌≤◌, arith, Bool, true, false, List, [], ◌∷◌, length, drop, refl, sym, ap, subst, ◌∙◌}
 use Rattle.neph_base.specs.declared.reply.Actor.{Actor}
+use Rattle.neph_base.specs.declared.reply.Actor.TheVariants.{Dom, Daemon}
 use Rattle.neph_base.specs.declared.reply.Noted.{Noted}
 use Rattle.neph_model.specs.declared.script.Script.{Script}
 use Rattle.neph_model.specs.WellFormed.{IsWellFormed}
-use Rattle.neph_model.specs.Machine.{is_over}
-use Rattle.neph_model.specs.Turns.{turn, turns, round}
+use Rattle.neph_model.specs.Machine.{Shared, is_over}
+use Rattle.neph_model.specs.Step.{is_some_left}
+use Rattle.neph_model.specs.Books.{State}
+use Rattle.neph_model.specs.Turns.{nothing, turn, turns, round}
 use Rattle.neph_runs.specs.Orderly.{IsOrderly}
 use Rattle.neph_runs.specs.Work.{work_left}
 use Rattle.neph_pool.specs.Plain.{plain_world}
-use Rattle.neph_pool.specs.PlainLaws.{plain_shaped}
-use Rattle.neph_pool.proofs.Seats.{all_counted}
+use Rattle.neph_rows.specs.Live.{IsNoneLive, IsFirstLive}
 use Rattle.neph_machine.specs.declared.turn.Turn.{Turn}
 use Rattle.neph_machine.specs.Reached.{state_after}
 use Rattle.neph_machine.specs.StandsFor.{StandsFor}
-use Rattle.neph_machine.specs.Surveyed.{IsSurveyed}
 use Rattle.neph_machine.specs.Turned.{did_move, entry_of, IsRunning, Took, Lacked}
 use Rattle.neph_machine.proofs.Reached.{reached}
 use Rattle.neph_turns.proofs.Work.{machine_left, work_is}
@@ -22,11 +23,8 @@ use Rattle.neph_core.specs.declared.machine.Machine.{Machine}
 use Rattle.neph_core.specs.Course.{Course, Stands, Starts, course}
 use Rattle.neph_core.specs.Does.{Goes, Lacks}
 use Rattle.neph_core.specs.Plays.{EndsRun}
-use Rattle.neph_core.proofs.Courses.{SoFar, at_start, one_more, ends_over, ends_all, Reached, IsGoing, at_first, one_round, less_left, at_stall, at_end}
-
--- the pool of one thread tells its counts, and they tell of all its seats
-pub plain_surveyed : IsSurveyed plain_world
-plain_surveyed = record { told = λ p. refl; counted = λ p seats. all_counted p seats; shaped = λ p. plain_shaped p }
+use Rattle.neph_core.proofs.Courses.{SoFar, at_start, one_more, passes, ends, ends_over, ends_all, Reached, IsGoing, at_first, one_round, less_left, at_stall, at_end}
+use Rattle.neph_core.proofs.Passing.{backends, backends_rest, daemon_rests, round_from, round_is, one_of_round, none_live_passed, goes_on_live}
 
 -- each state of a run is in order
 orderly : (s : Script) → IsWellFormed s → (before : List Actor) → IsOrderly (state_after s before)
@@ -82,13 +80,66 @@ module _ (first : Machine) (before actors : List Actor) where
         → Goes first now before (turns first.frames.script (state_after first.frames.script before) actors) moved
     stops_all n g e = record { after = g.after; stands = g.stands; does = ends_all (course first before) actors (course now g.after) moved n g.so_far e }
 
-    pub goes_on : (next : Machine) (did : Bool) (n : ℕ) (a : Actor) → n < length actors → a ≡ get_or actors n a → (g : GoneOn first before actors now moved (drop n actors)) → is_over (course now g.after).state.machine ≡ false
-        → Goes now next g.after (turn now.frames.script (state_after now.frames.script g.after) a) did → GoneOn first before actors next (moved || did) (drop (n + 1) actors)
-    goes_on next did n a lt is g live step = record {
+    pub stops_idle : (rest : List Actor) (g : GoneOn first before actors now moved rest)
+        → turns first.frames.script (course now g.after).state rest ≡ nothing (course now g.after).state
+        → Goes first now before (turns first.frames.script (state_after first.frames.script before) actors) moved
+    stops_idle rest g idle = record { after = g.after; stands = g.stands; does = ends (course first before) actors (course now g.after) moved rest g.so_far idle }
+
+    abbrev pub goes_past : (rest later : List Actor) (g : GoneOn first before actors now moved rest)
+        → turns first.frames.script (course now g.after).state rest ≡ turns first.frames.script (course now g.after).state later
+        → GoneOn first before actors now moved later
+    goes_past rest later g same = record { after = g.after; stands = g.stands; so_far = passes (course first before) actors (course now g.after) moved rest later same g.so_far }
+
+    pub goes_on : (next : Machine) (did : Bool) (a : Actor) (rest later : List Actor) → rest ≡ a ∷ later → (g : GoneOn first before actors now moved rest) → is_over (course now g.after).state.machine ≡ false
+        → Goes now next g.after (turn now.frames.script (state_after now.frames.script g.after) a) did → GoneOn first before actors next (moved || did) later
+    goes_on next did a rest later is g live step = record {
       after = step.after;
       stands = step.stands;
-      so_far = one_more (course first before) actors (course now g.after) (course next step.after) moved did n a lt is live g.so_far step.does;
+      so_far = one_more (course first before) actors (course now g.after) (course next step.after) moved did a rest later is live g.so_far step.does;
     }
+
+-- what the turns of a round did to a machine, before those from the turn of an id on
+pub record InRound (first now : Machine) (moved : Bool) (from : ℕ) : Type 0 where
+  pub low : from ≤ 64
+  pub gone : (before : List Actor) → Stands first before → GoneOn first before round now moved (round_from from)
+
+pub round_begins : (m : Machine) → InRound m m false 1
+round_begins m = record { low = omega arith; gone = λ before stands. subst (GoneOn m before round m false) round_is (goes_from m before round stands) }
+
+module _ (first now : Machine) (moved : Bool) (from : ℕ) (h : InRound first now moved from) (before : List Actor) (stands : Stands first before) where
+  abbrev here : State
+  here = (course now (h.gone before stands).after).state
+
+  -- with no domain live from here to an id
+  abbrev past : (to : ℕ) → from ≤ to → to ≤ 64 → IsNoneLive here.machine.shared.lives from to → GoneOn first before round now moved (round_from to)
+  past to low high none = goes_past first before round now moved (round_from from) (round_from to) (h.gone before stands) (none_live_passed first.frames.script here from to low high none)
+
+  module _ (next : Machine) (did : Bool) where
+    -- the turn of the next live domain, whose id is read again
+    pub next_domain : (id read : ℕ) → read ≡ id → id < 64 → IsFirstLive here.machine.shared.lives from id
+        → Goes now next (h.gone before stands).after (turn now.frames.script here (Dom id)) did → GoneOn first before round next (moved || did) (round_from (read + 1))
+    next_domain id read e lt live step =
+        subst (λ k. GoneOn first before round next (moved || did) (round_from (k + 1))) (sym e)
+        (goes_on first before round now moved next did (Dom id) (round_from id) (round_from (id + 1)) (one_of_round id lt) (past id live.at (omega (arith, lt)) live.first) (goes_on_live here id live.live) step)
+
+    -- the daemon's turn, behind that of the last domain
+    pub daemon_last : IsNoneLive here.machine.shared.lives from 64 → is_over here.machine ≡ false
+        → Goes now next (h.gone before stands).after (turn now.frames.script here Daemon) did → Goes first next before (turns first.frames.script (state_after first.frames.script before) round) (moved || did)
+    daemon_last none live step =
+        let g = goes_on first before round now moved next did Daemon (round_from 64) backends refl (past 64 h.low (omega arith) none) live step in
+        stops_idle first before round next (moved || did) backends g (backends_rest first.frames.script (course next g.after).state)
+
+  -- no turn more, where no clone waits for the daemon
+  pub none_waits : (waiting : Bool) → waiting ≡ is_some_left now.frames.hv.registry.tables.waiting → waiting ≡ false → IsNoneLive here.machine.shared.lives from 64
+      → Goes first now before (turns first.frames.script (state_after first.frames.script before) round) moved
+  none_waits waiting is e none =
+      let g = past 64 h.low (omega arith) none in
+      let rests : is_some_left here.machine.shared.tables.waiting ≡ false = ap (λ (sh : Shared). is_some_left sh.tables.waiting) g.stands.shared ∙ sym is ∙ e in
+      stops_idle first before round now moved (round_from 64) g (daemon_rests first.frames.script here (ap (λ (b : Bool). b && true) rests))
+
+  -- none where the run is over
+  pub over_last : is_over here.machine ≡ true → Goes first now before (turns first.frames.script (state_after first.frames.script before) round) moved
+  over_last over = stops_over first before round now moved (round_from from) (h.gone before stands) over
 
 -- the machine of a run behind the first turns and some rounds
 pub record Rounded (s : Script) (m : Machine) : Type 0 where

@@ -10,7 +10,7 @@ ghost use Rattle.neph_core.specs.Does.{Goes};
 ghost use Rattle.neph_core.specs.Plays.{EndsRun};
 
 use crate::machine::Machine;
-use neph_base::{Actor, DomId, NoMemory};
+use neph_base::{Actor, NoMemory};
 use neph_model::Script;
 use std::alloc::Global;
 
@@ -31,9 +31,8 @@ pub fn play(alloc: Global, s: &Script) -> Result<Played, NoMemory>
 {
     let mut machine = Machine::new(alloc, s)?;
     let _first = take_turns(&mut machine, alloc, s.turns.items())?;
-    let round = round_actors(alloc)?;
     'rounds: while !machine.is_over() {
-        if !take_turns(&mut machine, alloc, &round)? {
+        if !take_round(&mut machine, alloc)? {
             return Ok(Played {
                 machine,
                 stalled: true,
@@ -64,22 +63,26 @@ fn take_turns(machine: &mut Machine, alloc: Global, actors: &[Actor]) -> Result<
     Ok(moved)
 }
 
-// The actors of a round.
-#[tactic(auto, unfolding(neph_model::specs::Turns::round))]
-fn round_actors(alloc: Global) -> Result<Vec<Actor>, NoMemory>
-    ensures { IfOk result (λ v. v.items ≡ round) }
+// The turns of a round, until no domain is live. Takes those of the live domains, by rising id, and
+// the daemon's where a clone waits for it: the others do nothing. Tells whether one did anything.
+fn take_round(machine: &mut Machine, alloc: Global) -> Result<bool, NoMemory>
+    requires formed { IsWellFormed machine.old.frames.script }
+    requires running { IsRunning plain_world machine.old.frames }
+    ensures { IfOk result (λ moved. (before : List Actor) → Stands machine.old before
+        → Goes machine.old machine.new before (turns machine.old.frames.script
+        (state_after machine.old.frames.script before) round) moved) }
 {
-    let mut actors = Vec::with_capacity(alloc, 67)?;
-    for n in 1..64 {
-        actors.push(Actor::Dom(id_of(n)))?;
+    let mut moved = false;
+    let mut from = 1;
+    'domains: while let Some(id) = machine.frames.next_live(from) {
+        moved |= machine.turn(alloc, Actor::Dom(id))?;
+        from = id.get() + 1;
     }
-    actors.extend_from_slice(&[Actor::Daemon, Actor::Console, Actor::Net, Actor::P9])?;
-    Ok(actors)
-}
-
-fn id_of(n: u32) -> DomId
-    requires { n < 64 }
-    ensures { result ≡ n }
-{
-    DomId::new(n).unwrap()
+    if !machine.frames.hv.registry.has_waiting() {
+        return Ok(moved);
+    }
+    if !machine.is_over() {
+        moved |= machine.turn(alloc, Actor::Daemon)?;
+    }
+    Ok(moved)
 }

@@ -1,6 +1,6 @@
 -- What a turn leaves alone: the places of other ids.
-use Rattle.std.proofs.Common.{◌≡◌, ℕ, ◌+◌, ◌/◌, Bool, false, List, length, refl, sym, ap, subst, ◌∙◌}
-use Rattle.std.specs.Prelude.{is_some}
+use Rattle.std.proofs.Common.{◌≡◌, ℕ, ◌+◌, ◌/◌, ◌<◌, Bool, false, List, length, refl, sym, ap, subst, ◌∙◌}
+use Rattle.std.specs.Prelude.{is_some, not}
 use Rattle.std.specs.declared.option.Option.{Option}
 use Rattle.neph_base.specs.declared.command.Command.{Command}
 use Rattle.neph_base.specs.declared.command.Command.TheVariants as command
@@ -14,7 +14,9 @@ use Rattle.neph_pool.specs.declared.entry.Entry.{Entry}
 use Rattle.neph_pool.specs.Names.{IsApart, only_name}
 use Rattle.neph_pool.specs.World.{World, Spares}
 use Rattle.neph_ptab.specs.Tables.{leaf_at}
+use Rattle.neph_gmap.specs.declared.page.Page.{Page}
 use Rattle.neph_memory.specs.declared.dom_local.DomLocal.{DomLocal}
+use Rattle.neph_memory.specs.Pages.{frame_at}
 use Rattle.neph_memory.specs.Memory.{page_bytes, vpn_mapping, leaf_count}
 use Rattle.neph_memory.specs.OwnHalf.{IsReadAs}
 use Rattle.neph_memory.proofs.Standing.{stands_spared}
@@ -74,11 +76,18 @@ module _ {Pool Seat : Type 0} (W : World Pool Seat) (p q : Pool) where
     enough = h.enough ∙ ap (λ (es : List (Option Entry)). leaf_count es d.tables.root + 2) (sym of_parent);
   }
 
--- the exposed pages of a domain are as before
-pub exposes_same : {Pool Seat : Type 0} (s t : Lists) (id : ℕ) (l : Live Pool Seat) → exposed_of id t ≡ exposed_of id s → Exposes s id l → Exposes t id l
-exposes_same s t id l e h = record {
-  split = λ pfn lt. ap (λ (xs : List ExposedFrame). is_some (frame_in pfn xs)) e ∙ h.split pfn lt;
-  within = λ pfn here. h.within pfn (ap (λ (xs : List ExposedFrame). is_some (frame_in pfn xs)) (sym e) ∙ here);
+-- one domain stands in a place
+pub same_live : {Pool Seat : Type 0} (l k : Live Pool Seat) → Domain l ≡ Domain k → l ≡ k
+same_live l k e = cc
+
+pub same_flight : {Pool Seat : Type 0} (f g : Flight Pool Seat) → InFlight f ≡ InFlight g → f ≡ g
+same_flight f g e = cc
+
+-- the same pages are exposed where the same pages are the domain's own
+pub exposes_kept : {Pool Seat : Type 0} (s t : Lists) (id : ℕ) (l k : Live Pool Seat) → exposed_of id t ≡ exposed_of id s → k.local.own.map.pages ≡ l.local.own.map.pages → Exposes s id l → Exposes t id k
+exposes_kept s t id l k e same h = record {
+  split = λ pfn lt. ap (λ (xs : List ExposedFrame). is_some (frame_in pfn xs)) e ∙ h.split pfn (subst (λ (ps : List Page). pfn < length ps) same lt) ∙ ap (λ (ps : List Page). not (is_some (frame_at ps pfn))) (sym same);
+  within = λ pfn here. subst (λ (ps : List Page). pfn < length ps) (sym same) (h.within pfn (ap (λ (xs : List ExposedFrame). is_some (frame_in pfn xs)) (sym e) ∙ here));
 }
 
 -- the state has nothing of an id that it had nothing of
@@ -129,7 +138,7 @@ module _ {Pool Seat : Type 0} (W : World Pool Seat) (old new : Machine Pool Seat
       stands = stands_spared W ns old.pool new.pool l.local.seat l.local.id l.local.tables.root l.local.own h.stands spares apart;
       own = half_same W old.pool new.pool l x.own entries h.own;
       spare = h.spare;
-      exposes = exposes_same old.hv.heap.stock new.hv.heap.stock id l leaves.exposed h.exposes;
+      exposes = exposes_kept old.hv.heap.stock new.hv.heap.stock id l l leaves.exposed refl h.exposes;
       aside = leaves.aside ∙ h.aside;
       stage = stage_same id l x x.book.stage script entries stay h.stage;
     }) where

@@ -1,3 +1,4 @@
+pub mod Surveying
 pub mod Reached
 pub mod Summing
 pub mod Listed
@@ -10,4 +11,6 @@ pub mod FrameLaws
 pub mod FrameUses
 pub mod Carrying
 pub mod OnePlace
+pub mod Pairs
+pub mod Paired
 pub mod Joining

@@ -12,7 +12,7 @@ use Rattle.neph_pool.proofs.Rows.{same_or_not}
 use Rattle.neph_guest.specs.declared.live.Live.{Live}
 use Rattle.neph_rows.specs.Records.{shared_of}
 use Rattle.neph_heap.specs.declared.exposed_frame.ExposedFrame.{ExposedFrame}
-use Rattle.neph_heap.specs.Lists.{Lists, exposed_of, frame_in}
+use Rattle.neph_heap.specs.Lists.{Lists, exposed_of, aside_of, frame_in}
 use Rattle.neph_heap.specs.Heap.{IsHeap}
 use Rattle.neph_heap.specs.Pages.{pages_in}
 use Rattle.neph_accounts.specs.Heaps.{row_frames}
@@ -63,21 +63,104 @@ module _ {Pool Seat : Type 0} (old new : Machine Pool Seat) where
     other_by true j far e = let small : j < 64 = ltb-true j 64 e in row_is new j small ∙ row_same old.hv.heap.stock new.hv.heap.stock j (place_at j new.places.items) (exposed j far) ∙ ap (row_of old.hv.heap.stock j) (places j far) ∙ sym (row_is old j small)
     other_by false j far e = let le : 64 ≤ j = ltb-false j 64 e in row_past new j le ∙ sym (row_past old j le)
 
-no_flight : {Pool Seat : Type 0} (l : Live Pool Seat) (f : Flight Pool Seat) → Domain l ≡ InFlight f → ⊥
+pub no_flight : {Pool Seat : Type 0} (l : Live Pool Seat) (f : Flight Pool Seat) → Domain l ≡ InFlight f → ⊥
 no_flight l f e = cc
 
-not_begun : (xs : List ℕ) (j : ℕ) → xs ≡ [] → xs ≡ j ∷ [] → ⊥
+pub not_begun : (xs : List ℕ) (j : ℕ) → xs ≡ [] → xs ≡ j ∷ [] → ⊥
 not_begun xs j e h = cc
 
 -- a name of one of two seats
-name_parts : (a b : Bool) → (a || b) ≡ true → (a ≡ true) ⊎ (b ≡ true)
+pub name_parts : (a b : Bool) → (a || b) ≡ true → (a ≡ true) ⊎ (b ≡ true)
 name_parts true b e = inl refl
 name_parts false b e = inr e
 
-no_name : (b : Bool) → b ≡ true → b ≡ false → ⊥
+pub no_name : (b : Bool) → b ≡ true → b ≡ false → ⊥
 no_name b h k = cc
 
+-- past the last id nothing stands
+pub full_small : {Pool Seat : Type 0} (places : List (Place Pool Seat)) → length places ≡ 64 → (j : ℕ) → is_empty (place_at j places) ≡ false → j < 64
+full_small places long j full = by (nat_lt j 64) refl where
+  by : (b : Bool) → nat_lt j 64 ≡ b → j < 64
+  by true e = ltb-true j 64 e
+  by false e = absurd (no_name true refl (ap is_empty (sym (get_or_past places j Empty (let le = ltb-false j 64 e in omega arith))) ∙ full))
+
 module _ {Pool Seat : Type 0} (W : World Pool Seat) (old new : Machine Pool Seat) where
+  -- The place of a domain has changed to this, beside the free frames. The hypervisor's lists and names have changed for its id alone.
+  pub record OneMoved (id : ℕ) (l : Live Pool Seat) (y : Place Pool Seat) : Type 0 where
+    pub within : id < 64
+    pub here : place_at id old.places.items ≡ Domain l
+    pub places : new.places.items ≡ set old.places.items id y
+    pub script : new.script ≡ old.script
+    pub exposed : (j : ℕ) → j ≢ id → exposed_of j new.hv.heap.stock ≡ exposed_of j old.hv.heap.stock
+    pub aside : (j : ℕ) → j ≢ id → aside_of j new.hv.heap.stock ≡ aside_of j old.hv.heap.stock
+    pub names : (j : ℕ) → j ≢ id → W.names new.hv.heap.seat j ≡ W.names old.hv.heap.seat j
+    pub name : W.names new.hv.heap.seat id ≡ is_empty y
+    pub spares : Spares W (both_names (only_name id) (W.names old.hv.heap.seat)) old.pool new.pool
+    pub heap : IsHeap W new.pool new.hv.heap.seat new.hv.heap.stock []
+
+  module _ (id : ℕ) (l : Live Pool Seat) (y : Place Pool Seat) (one : OneMoved id l y) where
+    other_place : (j : ℕ) → j ≢ id → place_at j new.places.items ≡ place_at j old.places.items
+    other_place j far = ap (place_at j) one.places ∙ get_or-set_other old.places.items id j y Empty far
+
+    flights_stay : (j : ℕ) → FlightsStay W old new j
+    flights_stay j child f at parent = by (same_or_not child id) where
+      by : (child ≡ id) ⊎ (child ≢ id) → place_at child new.places.items ≡ InFlight f
+      by (inl e) = absurd (no_flight l f (sym one.here ∙ ap (λ (i : ℕ). place_at i old.places.items) (sym e) ∙ at))
+      by (inr far) = other_place child far ∙ at
+
+    module _ (st : State) (stands : StandsFor W old st) where
+      pub moved_here : place_at id new.places.items ≡ y
+      moved_here = ap (place_at id) one.places ∙ get_or-set_same old.places.items id y Empty (let n = stands.places in let lt = one.within in omega arith)
+
+      apart : (j : ℕ) → j < 64 → j ≢ id → is_empty (place_at j old.places.items) ≡ false → IsApart (both_names (only_name id) (W.names old.hv.heap.seat)) (only_name j)
+      apart j lt far full d x y = by (name_parts (only_name id d) (W.names old.hv.heap.seat d) x) where
+        same : d ≡ j
+        same = eqb-true d j y
+
+        by : (only_name id d ≡ true) ⊎ (W.names old.hv.heap.seat d ≡ true) → ⊥
+        by (inl a) = far (sym same ∙ eqb-true d id a)
+        by (inr a) = no_name (W.names old.hv.heap.seat j) (ap (W.names old.hv.heap.seat) (sym same) ∙ a) (stands.names j lt ∙ full)
+
+      leaves : (j : ℕ) → j ≢ id → Leaves W old new (both_names (only_name id) (W.names old.hv.heap.seat)) j
+      leaves j far = record {
+        place = other_place j far;
+        exposed = one.exposed j far;
+        aside = one.aside j far;
+        apart = λ full. apart j (full_small old.places.items stands.places j full) far full;
+      }
+
+      module _ (st' : State) (quiet : (part_at st id).guest.begun ≡ []) (others : (j : ℕ) → j ≢ id → part_at st' j ≡ part_at st j) where
+        -- no child in flight is of this domain
+        parents : (j : ℕ) (place : Place Pool Seat) → place_at j old.places.items ≡ place → IsPlace W old j place (part_at st) → LeavesParent W old new (both_names (only_name id) (W.names old.hv.heap.seat)) one.script one.spares (part_at st) (part_at st') place
+        parents j Empty at h = tt
+        parents j (InFlight f) at h = let far : f.parent ≢ id = (λ (e : f.parent ≡ id). not_begun _ j (ap (λ (i : ℕ). (part_at st i).guest.begun) e ∙ quiet) h.1.begun) in (leaves f.parent far, others f.parent far)
+        parents j (Domain l) at h = tt
+
+        each_by : (j : ℕ) → (j ≡ id) ⊎ (j ≢ id) → IsPlace W new id y (part_at st') → IsPlace W new j (place_at j new.places.items) (part_at st')
+        each_by j (inl e) h = subst (λ (i : ℕ). IsPlace W new i (place_at i new.places.items) (part_at st')) (sym e) (subst (λ (place : Place Pool Seat). IsPlace W new id place (part_at st')) (sym moved_here) h)
+        each_by j (inr far) h = place_same W old new (both_names (only_name id) (W.names old.hv.heap.seat)) one.script one.spares j (part_at st) (part_at st') (leaves j far) (parents j (place_at j old.places.items) refl (stands.each j)) (flights_stay j) (others j far) stands.each
+
+        names_by : (j : ℕ) → j < 64 → (j ≡ id) ⊎ (j ≢ id) → W.names new.hv.heap.seat j ≡ is_empty (place_at j new.places.items)
+        names_by j lt (inl e) = ap (W.names new.hv.heap.seat) e ∙ one.name ∙ sym (ap is_empty moved_here) ∙ ap (λ (i : ℕ). is_empty (place_at i new.places.items)) (sym e)
+        names_by j lt (inr far) = one.names j far ∙ stands.names j lt ∙ ap is_empty (sym (other_place j far))
+
+        -- the machine stands for a state of which no other part has changed
+        pub stands_moved : st'.machine.shared ≡ shared_of new.hv.registry (pages_in (W.entries new.pool new.hv.heap.seat) new.hv.heap.stock.exposed) → IsPlace W new id y (part_at st') → IsStood (rows_of new) st'.books → StandsFor W new st'
+        stands_moved shared place stood = record {
+          frames = one.spares.frames ∙ stands.frames ∙ ap (λ s. s.frames) (sym one.script);
+          cap = let e = one.spares.cap in let le = stands.cap in omega arith;
+          heap = one.heap;
+          shared = shared;
+          places = ap (λ (xs : List (Place Pool Seat)). length xs) one.places ∙ length-set old.places.items id y ∙ stands.places;
+          names = λ j lt. names_by j lt (same_or_not j id);
+          each = λ j. each_by j (same_or_not j id) place;
+          colours = stood;
+        }
+
+    -- the row of the id alone has changed
+    pub moved_row : RowPut id (row_of new.hv.heap.stock id (place_at id new.places.items)) (rows_of old) (rows_of new)
+    moved_row = rows_put old new id one.within other_place one.exposed
+
   -- One domain has changed in its place, beside the free frames.
   pub record OneDomain (id : ℕ) (l k : Live Pool Seat) : Type 0 where
     pub within : id < 64
@@ -91,85 +174,39 @@ module _ {Pool Seat : Type 0} (W : World Pool Seat) (old new : Machine Pool Seat
     pub heap : IsHeap W new.pool new.hv.heap.seat new.hv.heap.stock []
 
   module _ (id : ℕ) (l k : Live Pool Seat) (one : OneDomain id l k) where
-    other_place : (j : ℕ) → j ≢ id → place_at j new.places.items ≡ place_at j old.places.items
-    other_place j far = ap (place_at j) one.places ∙ get_or-set_other old.places.items id j (Domain k) Empty far
-
     exposed_at : (j : ℕ) → exposed_of j new.hv.heap.stock ≡ exposed_of j old.hv.heap.stock
     exposed_at j = ap (λ (xs : List (List ExposedFrame)). get_or xs j []) one.exposed
 
-    flights_stay : (j : ℕ) → FlightsStay W old new j
-    flights_stay j child f at parent = by (same_or_not child id) where
-      by : (child ≡ id) ⊎ (child ≢ id) → place_at child new.places.items ≡ InFlight f
-      by (inl e) = absurd (no_flight l f (sym one.here ∙ ap (λ (i : ℕ). place_at i old.places.items) (sym e) ∙ at))
-      by (inr far) = other_place child far ∙ at
-
     module _ (st : State) (stands : StandsFor W old st) where
-      now_here : place_at id new.places.items ≡ Domain k
-      now_here = ap (place_at id) one.places ∙ get_or-set_same old.places.items id (Domain k) Empty (let n = stands.places in let lt = one.within in omega arith)
-
-      apart : (j : ℕ) → j < 64 → j ≢ id → is_empty (place_at j old.places.items) ≡ false → IsApart (both_names (only_name id) (W.names old.hv.heap.seat)) (only_name j)
-      apart j lt far full d x y = by (name_parts (only_name id d) (W.names old.hv.heap.seat d) x) where
-        same : d ≡ j
-        same = eqb-true d j y
-
-        by : (only_name id d ≡ true) ⊎ (W.names old.hv.heap.seat d ≡ true) → ⊥
-        by (inl a) = far (sym same ∙ eqb-true d id a)
-        by (inr a) = no_name (W.names old.hv.heap.seat j) (ap (W.names old.hv.heap.seat) (sym same) ∙ a) (stands.names j lt ∙ full)
-
-      -- past the last id nothing stands
-      full_small : (b : Bool) (j : ℕ) → nat_lt j 64 ≡ b → is_empty (place_at j old.places.items) ≡ false → j < 64
-      full_small true j e full = ltb-true j 64 e
-      full_small false j e full = absurd (no_name true refl (ap is_empty (sym (get_or_past old.places.items j Empty (let n = stands.places in let le = ltb-false j 64 e in omega arith))) ∙ full))
-
-      leaves : (j : ℕ) → j ≢ id → Leaves W old new (both_names (only_name id) (W.names old.hv.heap.seat)) j
-      leaves j far = record {
-        place = other_place j far;
-        exposed = exposed_at j;
-        aside = ap (λ (xs : List (List ℕ)). get_or xs j []) one.aside;
-        apart = λ full. apart j (full_small (nat_lt j 64) j refl full) far full;
+      one_moved : OneMoved id l (Domain k)
+      one_moved = record {
+        within = one.within;
+        here = one.here;
+        places = one.places;
+        script = one.script;
+        exposed = λ j far. exposed_at j;
+        aside = λ j far. ap (λ (xs : List (List ℕ)). get_or xs j []) one.aside;
+        names = λ j far. ap (λ (ns : ℕ → Bool). ns j) one.names;
+        name = ap (λ (ns : ℕ → Bool). ns id) one.names ∙ stands.names id one.within ∙ ap is_empty one.here;
+        spares = one.spares;
+        heap = one.heap;
       }
 
-      module _ (st' : State) (quiet : (part_at st id).guest.begun ≡ []) (others : (j : ℕ) → j ≢ id → part_at st' j ≡ part_at st j) where
-        -- no child in flight is of this domain
-        parents : (j : ℕ) (place : Place Pool Seat) → place_at j old.places.items ≡ place → IsPlace W old j place (part_at st) → LeavesParent W old new (both_names (only_name id) (W.names old.hv.heap.seat)) one.script one.spares (part_at st) (part_at st') place
-        parents j Empty at h = tt
-        parents j (InFlight f) at h = let far : f.parent ≢ id = (λ (e : f.parent ≡ id). not_begun _ j (ap (λ (i : ℕ). (part_at st i).guest.begun) e ∙ quiet) h.1.begun) in (leaves f.parent far, others f.parent far)
-        parents j (Domain l) at h = tt
+      -- the machine stands for a state of which no other part has changed
+      pub stands_one : (st' : State) → (part_at st id).guest.begun ≡ [] → ((j : ℕ) → j ≢ id → part_at st' j ≡ part_at st j) → st'.machine.shared ≡ shared_of new.hv.registry (pages_in (W.entries new.pool new.hv.heap.seat) new.hv.heap.stock.exposed) → IsDomain W new id k (part_at st' id)
+          → IsStood (rows_of new) st'.books → StandsFor W new st'
+      stands_one = stands_moved id l (Domain k) one_moved st stands
 
-        each_by : (j : ℕ) → (j ≡ id) ⊎ (j ≢ id) → IsDomain W new id k (part_at st' id) → IsPlace W new j (place_at j new.places.items) (part_at st')
-        each_by j (inl e) h = subst (λ (i : ℕ). IsPlace W new i (place_at i new.places.items) (part_at st')) (sym e) (subst (λ (place : Place Pool Seat). IsPlace W new id place (part_at st')) (sym now_here) h)
-        each_by j (inr far) h = place_same W old new (both_names (only_name id) (W.names old.hv.heap.seat)) one.script one.spares j (part_at st) (part_at st') (leaves j far) (parents j (place_at j old.places.items) refl (stands.each j)) (flights_stay j) (others j far) stands.each
+      -- the row of the domain alone has changed
+      pub one_row : RowPut id (row_of new.hv.heap.stock id (place_at id new.places.items)) (rows_of old) (rows_of new)
+      one_row = moved_row id l (Domain k) one_moved
 
-        names_by : (j : ℕ) → j < 64 → (j ≡ id) ⊎ (j ≢ id) → W.names new.hv.heap.seat j ≡ is_empty (place_at j new.places.items)
-        names_by j lt (inl e) = ap (λ (ns : ℕ → Bool). ns j) one.names ∙ stands.names j lt ∙ ap (λ (i : ℕ). is_empty (place_at i old.places.items)) e ∙ ap is_empty one.here ∙ sym (ap is_empty now_here) ∙ ap (λ (i : ℕ). is_empty (place_at i new.places.items)) (sym e)
-        names_by j lt (inr far) = ap (λ (ns : ℕ → Bool). ns j) one.names ∙ stands.names j lt ∙ ap is_empty (sym (other_place j far))
+      -- and no row has, where its pages lie in the frames that they lay in
+      pub one_rows_same : k.local.own.map.pages ≡ l.local.own.map.pages → rows_of new ≡ rows_of old
+      one_rows_same e = rows_same old new (λ j lt. by j (same_or_not j id)) where
+        here_same : row_of old.hv.heap.stock id (place_at id new.places.items) ≡ row_of old.hv.heap.stock id (place_at id old.places.items)
+        here_same = ap (row_of old.hv.heap.stock id) (moved_here id l (Domain k) one_moved st stands) ∙ ap (λ ps. row_frames (frames_in ps) (λ pfn. unwrap_or (frame_in pfn (exposed_of id old.hv.heap.stock)) 0) 0) e ∙ sym (ap (row_of old.hv.heap.stock id) one.here)
 
-        -- the machine stands for a state of which no other part has changed
-        pub stands_one : st'.machine.shared ≡ shared_of new.hv.registry (pages_in (W.entries new.pool new.hv.heap.seat) new.hv.heap.stock.exposed) → IsDomain W new id k (part_at st' id) → IsStood (rows_of new) st'.books → StandsFor W new st'
-        stands_one shared domain stood = record {
-          frames = one.spares.frames ∙ stands.frames ∙ ap (λ s. s.frames) (sym one.script);
-          cap = let e = one.spares.cap in let le = stands.cap in omega arith;
-          heap = one.heap;
-          shared = shared;
-          places = ap (λ (xs : List (Place Pool Seat)). length xs) one.places ∙ length-set old.places.items id (Domain k) ∙ stands.places;
-          names = λ j lt. names_by j lt (same_or_not j id);
-          each = λ j. each_by j (same_or_not j id) domain;
-          colours = stood;
-        }
-
-    -- the row of the domain alone has changed
-    pub one_row : RowPut id (row_of new.hv.heap.stock id (place_at id new.places.items)) (rows_of old) (rows_of new)
-    one_row = rows_put old new id one.within other_place (λ j far. exposed_at j)
-
-    -- and no row has, where its pages lie in the frames that they lay in
-    pub one_rows_same : length old.places.items ≡ 64 → k.local.own.map.pages ≡ l.local.own.map.pages → rows_of new ≡ rows_of old
-    one_rows_same n e = rows_same old new (λ j lt. by j (same_or_not j id)) where
-      there : place_at id new.places.items ≡ Domain k
-      there = ap (place_at id) one.places ∙ get_or-set_same old.places.items id (Domain k) Empty (let lt = one.within in omega arith)
-
-      here_same : row_of old.hv.heap.stock id (place_at id new.places.items) ≡ row_of old.hv.heap.stock id (place_at id old.places.items)
-      here_same = ap (row_of old.hv.heap.stock id) there ∙ ap (λ ps. row_frames (frames_in ps) (λ pfn. unwrap_or (frame_in pfn (exposed_of id old.hv.heap.stock)) 0) 0) e ∙ sym (ap (row_of old.hv.heap.stock id) one.here)
-
-      by : (j : ℕ) → (j ≡ id) ⊎ (j ≢ id) → row_of new.hv.heap.stock j (place_at j new.places.items) ≡ row_of old.hv.heap.stock j (place_at j old.places.items)
-      by j (inl s) = row_same old.hv.heap.stock new.hv.heap.stock j (place_at j new.places.items) (exposed_at j) ∙ ap (λ (i : ℕ). row_of old.hv.heap.stock i (place_at i new.places.items)) s ∙ here_same ∙ ap (λ (i : ℕ). row_of old.hv.heap.stock i (place_at i old.places.items)) (sym s)
-      by j (inr far) = row_same old.hv.heap.stock new.hv.heap.stock j (place_at j new.places.items) (exposed_at j) ∙ ap (row_of old.hv.heap.stock j) (other_place j far)
+        by : (j : ℕ) → (j ≡ id) ⊎ (j ≢ id) → row_of new.hv.heap.stock j (place_at j new.places.items) ≡ row_of old.hv.heap.stock j (place_at j old.places.items)
+        by j (inl s) = row_same old.hv.heap.stock new.hv.heap.stock j (place_at j new.places.items) (exposed_at j) ∙ ap (λ (i : ℕ). row_of old.hv.heap.stock i (place_at i new.places.items)) s ∙ here_same ∙ ap (λ (i : ℕ). row_of old.hv.heap.stock i (place_at i old.places.items)) (sym s)
+        by j (inr far) = row_same old.hv.heap.stock new.hv.heap.stock j (place_at j new.places.items) (exposed_at j) ∙ ap (row_of old.hv.heap.stock j) (other_place id l (Domain k) one_moved j far)

@@ -4,13 +4,14 @@ ghost use Rattle.neph_model.specs.Books.{State};
 ghost use Rattle.neph_model.specs.Machine.{is_over};
 ghost use Rattle.neph_model.specs.Turns.{turn};
 ghost use Rattle.neph_pool.specs.World.{World};
+ghost use Rattle.neph_rows.specs.Live.{IsNextLive};
 ghost use Rattle.neph_machine.specs.Reached.{state_after};
 ghost use Rattle.neph_machine.specs.StandsFor.{StandsFor};
 ghost use Rattle.neph_machine.specs.Turned.{Took};
 
 use crate::machine::Machine;
 use crate::turn::Turn;
-use neph_base::{Actor, Entry, Noted};
+use neph_base::{Actor, DomId, Entry, Noted};
 use neph_pool::FramePool;
 
 impl<P: FramePool> Machine<P> {
@@ -37,5 +38,13 @@ impl<P: FramePool> Machine<P> {
         ensures { (st : State) → StandsFor P.world self.now st → result ≡ is_over st.machine }
     {
         self.hv.registry.live_count() == 0
+    }
+
+    /// The first id from a number on whose domain is live.
+    pub fn next_live(&self, from: u32) -> Option<DomId>
+        ensures { (st : State) → StandsFor P.world self.now st
+            → IsNextLive st.machine.shared.lives from result }
+    {
+        self.hv.registry.next_live(from)
     }
 }

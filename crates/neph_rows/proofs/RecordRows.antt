@@ -1,23 +1,15 @@
 -- Tables that a row changes piece by piece.
-use Rattle.std.proofs.Common.{◌≡◌, ℕ, ◌<◌, length, List, [], ◌∷◌, ◌++◌, get_or, set, Option, Some, None, All, sym, ap, subst, ◌∙◌}
+use Rattle.std.proofs.Common.{◌≡◌, ℕ, ◌<◌, length, List, [], ◌∷◌, ◌++◌, get_or, set, Option, Some, None, sym, ap, ◌∙◌}
 use Rattle.std.specs.Prelude.{slice_get, option_map}
 use Rattle.neph_base.specs.declared.reply.Reply.TheVariants.{Child}
 use Rattle.neph_model.specs.declared.life.Life.{Life}
 use Rattle.neph_model.specs.declared.life.Guest.{Guest}
 use Rattle.neph_model.specs.declared.life.Cloned.{Cloned}
-use Rattle.neph_model.specs.Machine.{Exposed, life_at, guest_at, no_guest, exposed_at, live_count}
+use Rattle.neph_model.specs.Machine.{Exposed, life_at, guest_at, no_guest, exposed_at}
 use Rattle.neph_model.specs.Births.{commit, child_exposed}
 use Rattle.neph_model.specs.Step.{locked, shared_commit}
-use Rattle.neph_rows.specs.Kept.{IsKept, records_of}
 use Rattle.std.proofs.lemmas.List.{get_or_default}
-use Rattle.neph_rows.specs.Slots.{HasRoom}
-use Rattle.neph_rows.specs.Sound.{IsSoundRecords}
 use Rattle.neph_rows.specs.Records.{Records, shared_of, records_in}
-use Rattle.neph_rows.specs.declared.registry.Registry.TheInside.{Inside}
-
--- tables that keep sound records are kept
-pub kept_as : (a : Inside) (r : Records) → records_of a ≡ r → IsSoundRecords r → All HasRoom a.slots.items → a.live ≡ live_count a.lives.items → IsKept a
-kept_as a r e h room live = record { sound = subst IsSoundRecords (sym e) h; room = room; live = live }
 
 abbrev pub made : List (Option Life) → List Guest → ℕ → List Cloned → Records
 made lives guests next waiting = record { lives = lives; tables = record { guests = guests; next = next; waiting = waiting } }

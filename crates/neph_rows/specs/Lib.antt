@@ -1,5 +1,6 @@
 pub mod Records
 pub mod Slots
+pub mod Live
 pub mod Sound
 pub mod Kept
 pub mod Row

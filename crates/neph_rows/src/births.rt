@@ -4,10 +4,12 @@ ghost use Rattle.neph_model.specs.Births.{end_domain};
 ghost use Rattle.neph_model.specs.Machine.{Exposed, guest_at, is_live, live_count, no_guest};
 ghost use Rattle.neph_model.specs.declared.life.Life.{Life};
 ghost use Rattle.neph_model.specs.Step.{locked, shared_commit, shared_join};
+ghost use Rattle.neph_rows.specs.Live.{AreLiveIds};
 ghost use Rattle.neph_rows.specs.Records.{shared_of};
 ghost use Rattle.neph_rows.specs.Slots.{guests_of, HasRoom};
 
 use crate::exposed_pages::ExposedPages;
+use crate::live_ids::with_id;
 use crate::registry::Registry;
 use crate::slots::{Slot, clear, take_first};
 use neph_base::{DomId, NoMemory, Reply};
@@ -44,7 +46,13 @@ pub fn commit<E: ExposedPages>(
     r.waiting.push_back_reserved(Cloned { parent: dom, child });
     commit_slots(&mut r.slots, dom, child);
     let life = born(r.lives[dom.get() as usize], dom);
-    set_life(&mut r.lives, &mut r.live, child.get() as usize, life);
+    set_life(
+        &mut r.lives,
+        &mut r.live,
+        &mut r.ids,
+        child.get() as usize,
+        life,
+    );
     Ok(Reply::Child(child))
 }
 
@@ -85,7 +93,7 @@ pub fn end<E: ExposedPages>(r: &mut Registry, pages: &mut E, dom: DomId) -> Repl
 {
     let at = dom.get() as usize;
     clear(&mut r.slots, at);
-    set_life(&mut r.lives, &mut r.live, at, None);
+    set_life(&mut r.lives, &mut r.live, &mut r.ids, at, None);
     pages.end(dom);
     Reply::Ended
 }
@@ -102,13 +110,21 @@ pub fn join(r: &mut Registry) -> Reply
     }
 }
 
-// Lets this be who is live with an id, and counts.
-fn set_life(lives: &mut Vec<Option<Life>>, live: &mut usize, at: usize, life: Option<Life>)
+// Lets this be who is live with an id, counts, and marks the live ids.
+fn set_life(
+    lives: &mut Vec<Option<Life>>,
+    live: &mut usize,
+    ids: &mut u64,
+    at: usize,
+    life: Option<Life>,
+)
     requires there { at < length lives.old.items }
     requires few { length lives.old.items ≤ 64 }
     requires count { live.old ≡ live_count lives.old.items }
+    requires ids { AreLiveIds ids.old lives.old.items }
     ensures lives { lives.new.items ≡ slice_set lives.old.items at life }
     ensures count { live.new ≡ live_count lives.new.items }
+    ensures ids { AreLiveIds ids.new lives.new.items }
 {
     if lives[at].is_some() {
         *live -= 1;
@@ -116,5 +132,6 @@ fn set_life(lives: &mut Vec<Option<Life>>, live: &mut usize, at: usize, life: Op
     if life.is_some() {
         *live += 1;
     }
+    *ids = with_id(*ids, at, life.is_some());
     lives[at] = life;
 }

@@ -6,6 +6,7 @@ mod births;
 mod clone;
 mod exposed_pages;
 mod lent;
+mod live_ids;
 mod memory;
 mod registry;
 mod slots;

@@ -1,4 +1,5 @@
 // Who is live, and what the hypervisor keeps of each id.
+use crate::live_ids::{first_from, live_ids};
 use crate::slots::{Slot, empty_slot};
 use neph_base::{DomId, IDS, NoMemory};
 use neph_model::{Cloned, Life};
@@ -15,6 +16,8 @@ pub struct Registry {
     pub(crate) next: u8,
     pub(crate) waiting: VecDeque<Cloned>,
     pub(crate) live: usize,
+    // The ids of the live domains.
+    pub(crate) ids: u64,
 }
 
 impl Model for Registry {
@@ -34,6 +37,7 @@ impl Registry {
     ghost use Rattle.std.specs.Option.{option_copied};
     ghost use Rattle.neph_model.specs.Machine.{life_at, live_count, guest_at, no_guest, program_run};
     ghost use Rattle.neph_model.specs.Step.{is_paused, awaits_join, is_some_left};
+    ghost use Rattle.neph_rows.specs.Live.{IsNextLive};
     ghost use Rattle.neph_rows.specs.Records.{shared_of};
     ghost use Rattle.neph_rows.specs.Sound.{IsSoundRecords};
     ghost use Rattle.neph_model.specs.Machine.{Exposed};
@@ -49,6 +53,7 @@ impl Registry {
           tables = record { guests = replicate 64 no_guest; next = next; waiting = [] };
         }) }
     {
+        let ids = live_ids(&lives);
         let live = lives.iter().filter(|life| life.is_some()).count();
         let mut slots = Vec::with_capacity(alloc, IDS)?;
         for _ in 0..IDS {
@@ -60,6 +65,7 @@ impl Registry {
             next,
             waiting: VecDeque::new(alloc),
             live,
+            ids,
         })
     }
 
@@ -68,6 +74,16 @@ impl Registry {
         ensures { result ≡ live_count self.now.lives }
     {
         self.live
+    }
+
+    /// The first id from a number on whose domain is live. Costs the same however many there are.
+    pub fn next_live(&self, from: u32) -> Option<DomId>
+        ensures { IsNextLive self.now.lives from result }
+    {
+        match first_from(self.ids, from) {
+            Some(id) => DomId::new(id),
+            None => None,
+        }
     }
 
     /// What the domain of an id was born as, where it is live.

@@ -11,22 +11,22 @@ pub returns-then-not-branch : goal.returns-then-not-branch
 returns-then-not-branch c =
     let h = c.rounds.invariant in
     let live = sym (c.is_over.ensures h.before h.stands) ∙ c.rounds-test.true in
-    let did = rw (c.deref.ensures.value, c.in_ok-round.ensures) at (c.in_ok-take_turns.ensures h.before h.stands) in
-    ends_stalled c.args.s.now c.requires c.rounds.machine c.take_turns-in-rounds.new.machine c.in_ok-take_turns.field-0 h live did c.if-not-branch.true
+    let did = c.in_ok-take_round.ensures h.before h.stands in
+    ends_stalled c.args.s.now c.requires c.rounds.machine c.take_round.new.machine c.in_ok-take_round.field-0 h live did c.if-not-branch.true
 
 pub rounds-smaller : goal.rounds-smaller
 rounds-smaller c =
     let h = c.rounds.invariant in
     let live = sym (c.is_over.ensures h.before h.stands) ∙ c.rounds-test.true in
-    let did = rw (c.deref.ensures.value, c.in_ok-round.ensures) at (c.in_ok-take_turns.ensures h.before h.stands) in
-    less_is_left c.args.s.now c.requires c.rounds.machine c.take_turns-in-rounds.new.machine c.in_ok-take_turns.field-0 h live did c.if-not-branch.false
+    let did = c.in_ok-take_round.ensures h.before h.stands in
+    less_is_left c.args.s.now c.requires c.rounds.machine c.take_round.new.machine c.in_ok-take_round.field-0 h live did c.if-not-branch.false
 
 pub rounds-preserved : goal.rounds-preserved
 rounds-preserved c =
     let h = c.rounds.invariant in
     let live = sym (c.is_over.ensures h.before h.stands) ∙ c.rounds-test.true in
-    let did = rw (c.deref.ensures.value, c.in_ok-round.ensures) at (c.in_ok-take_turns.ensures h.before h.stands) in
-    next_round c.args.s.now c.requires c.rounds.machine c.take_turns-in-rounds.new.machine c.in_ok-take_turns.field-0 h live did c.if-not-branch.false
+    let did = c.in_ok-take_round.ensures h.before h.stands in
+    next_round c.args.s.now c.requires c.rounds.machine c.take_round.new.machine c.in_ok-take_round.field-0 h live did c.if-not-branch.false
 
 pub returns : goal.returns
 returns c =

@@ -1,5 +1,6 @@
 use Rattle.std.proofs.Common.{sym, subst, ◌∙◌, arith}
 use Rattle.neph_model.specs.WellFormed.{IsWellFormed}
+use Rattle.neph_core.proofs.Courses.{next_actor}
 use Rattle.neph_core.proofs.Standing.{goes_from, goes_on, stops_over, stops_all}
 use Rattle.neph_core.proofs.rounds.take_turns.Goals as goal
 
@@ -20,8 +21,8 @@ turn-requires-clause-running c =
 pub loop-actor-preserved : goal.loop-actor-preserved
 loop-actor-preserved c = λ before stands.
     let g = c.loop-actor.invariant before stands in
-    goes_on c.args.machine.now before c.args.actors.now c.loop-actor.machine c.loop-actor.moved c.turn.new.self c.in_ok-moved.field-0 c.loop-actor.actor-index _
-    c.loop-actor-test.true c.actor-item.is g (sym (c.is_over.ensures g.after g.stands) ∙ c.if-is_over.false) (c.in_ok-moved.ensures g.after g.stands)
+    goes_on c.args.machine.now before c.args.actors.now c.loop-actor.machine c.loop-actor.moved c.turn.new.self c.in_ok-moved.field-0 _ _ _
+    (next_actor c.args.actors.now c.loop-actor.actor-index _ c.loop-actor-test.true c.actor-item.is) g (sym (c.is_over.ensures g.after g.stands) ∙ c.if-is_over.false) (c.in_ok-moved.ensures g.after g.stands)
 
 pub returns-then-is_over : goal.returns-then-is_over
 returns-then-is_over c = λ before stands.

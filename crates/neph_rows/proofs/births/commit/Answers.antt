@@ -40,7 +40,7 @@ pub invariant_of-r-2 : goal.invariant_of-r-2
 invariant_of-r-2 g c =
     let live = subst (λ (x : Records). is_live c.args.dom x.lives ≡ true) (sym c.r.view_is) c.requires.live in
     let sound = sound_commit (records_of c.r.inside) [] c.args.dom c.in-Some.child (split g c).0 c.r.invariant.sound live (split g c).1 in
-    record { sound = subst IsSoundRecords (sym (tables g c)) sound; room = c.commit_slots.ensures.room; live = c.set_life.ensures.count }
+    record { sound = subst IsSoundRecords (sym (tables g c)) sound; room = c.commit_slots.ensures.room; live = c.set_life.ensures.count; ids = c.set_life.ensures.ids }
 
 pub returns-clause-row : goal.returns-clause-row
 returns-clause-row g c =

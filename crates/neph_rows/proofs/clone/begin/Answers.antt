@@ -27,7 +27,7 @@ pub invariant_of-r : goal.invariant_of-r
 invariant_of-r c =
     let r = records_of c.r.inside in
     let may = subst (λ (x : Records). MayBegin x c.args.dom) (sym c.r.view_is) c.requires in
-    record { sound = subst IsSoundRecords (sym (tables c)) (sound_begin r c.args.dom c.r.invariant.sound may); room = c.count_clone.ensures.room; live = c.r.invariant.live }
+    record { sound = subst IsSoundRecords (sym (tables c)) (sound_begin r c.args.dom c.r.invariant.sound may); room = c.count_clone.ensures.room; live = c.r.invariant.live; ids = c.r.invariant.ids }
 
 pub returns-clause-row : goal.returns-clause-row
 returns-clause-row c = λ pages l told none.

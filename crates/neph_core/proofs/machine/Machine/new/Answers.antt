@@ -5,7 +5,7 @@ use Rattle.neph_pool.specs.declared.entry.Entry.{Entry}
 use Rattle.neph_pool.specs.Entries.{hold_at}
 use Rattle.neph_pool.specs.Rows.{blank_entry}
 use Rattle.neph_pool.proofs.Parts.{hold_at-replicate}
-use Rattle.neph_core.proofs.Standing.{plain_surveyed}
+use Rattle.neph_machine.proofs.Surveying.{plain_surveyed}
 use Rattle.neph_core.proofs.machine.Machine.new.Goals as goal
 
 pub boot-requires-clause-surveyed : goal.boot-requires-clause-surveyed

@@ -3,7 +3,8 @@ use Rattle.std.proofs.lemmas.List.{append-nil}
 use Rattle.neph_base.specs.declared.reply.Noted.{Noted}
 use Rattle.neph_machine.specs.declared.turn.Turn.TheVariants.{Noted as Entered}
 use Rattle.neph_core.specs.declared.machine.Machine.{Machine}
-use Rattle.neph_core.proofs.Standing.{plain_surveyed, goes_as}
+use Rattle.neph_machine.proofs.Surveying.{plain_surveyed}
+use Rattle.neph_core.proofs.Standing.{goes_as}
 use Rattle.neph_core.proofs.machine.Machine.turn.Goals as goal
 
 pub turn-requires-clause-surveyed : goal.turn-requires-clause-surveyed
