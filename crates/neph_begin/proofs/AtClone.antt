@@ -30,7 +30,7 @@ use Rattle.neph_machine.specs.StandsFor.{IsAtStage, IsDomain, IsForkIn, IsPlace,
 use Rattle.neph_machine.specs.Surveyed.{IsSurveyed}
 use Rattle.neph_machine.proofs.Reached.{IsReached, first_child, live_orderly}
 use Rattle.neph_machine.proofs.FrameLaws.{free_is}
-use Rattle.neph_lines.proofs.Sparing.{same_live}
+use Rattle.neph_machine.proofs.Carrying.{same_live}
 use Rattle.neph_lines.proofs.Exits.{ready_domain, ready_book, ready_runs, ready_command}
 use Rattle.neph_begin.proofs.CloneLines.{IsRow, answered, clone_is}
 

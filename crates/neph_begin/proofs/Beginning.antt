@@ -1,5 +1,5 @@
 -- A clone that begins: the state behind it by the definitions, and that the machine stands for it.
-use Rattle.std.proofs.Common.{◌≡◌, ◌≢◌, ℕ, ◌+◌, ◌<◌, false, List, [], ◌∷◌, ◌++◌, length, get_or, set, None, refl, sym, ap, subst, ◌∙◌, arith}
+use Rattle.std.proofs.Common.{◌≡◌, ◌≢◌, ℕ, ◌+◌, ◌<◌, Bool, false, List, [], ◌∷◌, ◌++◌, length, set, None, refl, sym, ap, subst, ◌∙◌, arith}
 use Rattle.std.specs.Prelude.{is_some}
 use Rattle.std.proofs.lemmas.List.{get_or-set_other}
 use Rattle.neph_base.specs.declared.command.Command.TheVariants.{Clone}
@@ -33,9 +33,10 @@ use Rattle.neph_guest.specs.declared.live.Live.{Live}
 use Rattle.neph_guest.specs.declared.live.Stage.TheVariants as guest
 use Rattle.neph_guest.specs.OwnHalf.{IsOwnHalf}
 use Rattle.neph_heap.specs.declared.exposed_frame.ExposedFrame.{ExposedFrame}
-use Rattle.neph_heap.specs.Lists.{Lists, exposed_of, aside_of}
+use Rattle.neph_heap.specs.Lists.{exposed_of, aside_of}
 use Rattle.neph_hv.specs.Hv.{IsHv, shared_in}
 use Rattle.neph_hv.specs.Begins.{IsBegun}
+use Rattle.neph_accounts.specs.Heaps.{row_frames}
 use Rattle.neph_accounts.specs.Colours.{IsStood}
 use Rattle.neph_accounts.proofs.Turns.{stands_line}
 use Rattle.neph_machine.specs.declared.place.Place.{Place}
@@ -44,18 +45,21 @@ use Rattle.neph_machine.specs.declared.place.Flight.{Flight}
 use Rattle.neph_machine.specs.declared.machine.Machine.{Machine}
 use Rattle.neph_machine.specs.declared.turn.Turn.TheVariants.{Noted as Entered}
 use Rattle.neph_machine.specs.Places.{place_at}
-use Rattle.neph_machine.specs.Rows.{rows_of}
+use Rattle.neph_machine.specs.Rows.{frames_in, away_in, rows_of}
 use Rattle.neph_machine.specs.Stages.{IsReadyAt}
-use Rattle.neph_machine.specs.StandsFor.{IsDomain, IsForkIn, IsFlight, StandsFor}
+use Rattle.neph_machine.specs.StandsFor.{HasNone, IsDomain, IsForkIn, IsFlight, IsPlace, StandsFor}
 use Rattle.neph_machine.specs.Surveyed.{IsSurveyed}
 use Rattle.neph_machine.specs.Turned.{Took}
 use Rattle.neph_machine.proofs.Reached.{IsReached, live_own}
-use Rattle.neph_lines.proofs.Sparing.{exposes_kept, within, orderly, in_books}
+use Rattle.neph_machine.proofs.Carrying.{none_same, exposes_kept}
+use Rattle.neph_machine.proofs.OnePlace.{not_begun}
+use Rattle.neph_machine.proofs.Pairs.{IsPut, PairMoved, pair_rows, pair_stands}
+use Rattle.neph_lines.proofs.Sparing.{within, orderly, in_books}
 use Rattle.neph_lines.proofs.NoFrame.{same_shares}
 use Rattle.neph_lines.proofs.Exits.{ready_domain, ready_command, ready_quiet}
 use Rattle.neph_begin.proofs.CloneLines.{IsRow, outcome, answered, clone_begins}
 use Rattle.neph_begin.proofs.AtClone.{next_free, ready_hand, row_is, turn_is}
-use Rattle.neph_begin.proofs.Begun.{HasBegun, put_long, put_parent, put_flight, put_others, begun_stands}
+use Rattle.neph_begin.proofs.Begun.{put_begun, name_gone, name_kept, spares_third}
 
 same_child : (a b : ℕ) → Begun a ≡ Begun b → a ≡ b
 same_child a b e = cc
@@ -124,24 +128,30 @@ module _ {Pool Seat : Type 0} (W : World Pool Seat) (old : Machine Pool Seat) (s
     small : id < 64
     small = within W old st reached stands id l ready.here
 
-    has_begun : HasBegun W old new id fork.child l k flight
-    has_begun = let n = stands.places in let lt = small in let lc = below in record {
+    put : IsPut old.places.items new.places.items fork.child id (InFlight flight) (Domain k)
+    put = let n = stands.places in let lt = small in let lc = below in put_begun old.places.items new.places.items id fork.child (Domain k) (InFlight flight) Empty (omega arith) (omega arith) far places
+
+    pair : PairMoved W old new id fork.child l Empty (Domain k) (InFlight flight)
+    pair = record {
       within = small;
       below = below;
       far = far;
       here = ready.here;
-      free = free_place;
-      long = put_long old.places.items new.places.items id fork.child k flight places;
-      now = put_parent old.places.items new.places.items id fork.child k flight places (omega arith);
-      flies = put_flight old.places.items new.places.items id fork.child k flight places far (omega arith);
-      others = put_others old.places.items new.places.items id fork.child k flight places;
+      there = free_place;
+      child_place = tt;
+      long = put.long ∙ stands.places;
+      now_here = put.there Empty;
+      now_there = put.here Empty;
+      other = λ j off away. put.other j away off Empty;
+      full = refl;
       script = left.script;
-      exposed = ap (λ (s : Lists). s.exposed) left.begun.stock;
+      exposed = λ j away. ap (exposed_of j) left.begun.stock;
       aside = λ j away. ap (aside_of j) left.begun.stock ∙ get_or-set_other old.hv.heap.stock.aside fork.child j _ [] away;
-      names = left.begun.names;
-      spares = subst (λ (ms : ℕ → _). Spares W (both_names (W.names old.hv.heap.seat) ms) old.pool new.pool) (is.stands.names ∙ ap only_name is.id_is) left.others;
+      names = λ j away. ap (λ (ms : ℕ → Bool). ms j) left.begun.names ∙ name_kept (W.names old.hv.heap.seat) fork.child j away;
+      name = ap (λ (ms : ℕ → Bool). ms fork.child) left.begun.names ∙ name_gone (W.names old.hv.heap.seat) fork.child;
+      spares = spares_third W (W.names old.hv.heap.seat) id fork.child old.pool new.pool
+          (subst (λ (ms : ℕ → Bool). Spares W (both_names (W.names old.hv.heap.seat) ms) old.pool new.pool) (is.stands.names ∙ ap only_name is.id_is) left.others);
       heap = left.hv;
-      pages = pages;
     }
 
     -- the half, what is kept of the clones, and the book of the domain behind the begin
@@ -167,7 +177,7 @@ module _ {Pool Seat : Type 0} (W : World Pool Seat) (old : Machine Pool Seat) (s
     some_pages = let low = (live_own old.script st reached id is.live).own.pages_low in omega arith
 
     exposed_same : exposed_of id new.hv.heap.stock ≡ exposed_of id old.hv.heap.stock
-    exposed_same = ap (λ (xs : List (List ExposedFrame)). get_or xs id []) has_begun.exposed
+    exposed_same = ap (exposed_of id) left.begun.stock
 
     -- the domain waits for its child
     domain : k.guest.stage ≡ guest.Forking → k.guest.dom ≡ l.guest.dom → IsOwnHalf W new.pool k own → IsDomain W new id k (record x { own = own; guest = kept; book = waiting })
@@ -179,7 +189,7 @@ module _ {Pool Seat : Type 0} (W : World Pool Seat) (old : Machine Pool Seat) (s
       own = half;
       spare = is.spare ∙ sym (ap (λ (v : DomLocal Pool Seat). is_some v.own.spare) local ∙ ap (λ o. is_some o.spare) left.same.own);
       exposes = exposes_kept old.hv.heap.stock new.hv.heap.stock id l k exposed_same pages is.exposes;
-      aside = has_begun.aside id (λ e. far (sym e)) ∙ is.aside;
+      aside = pair.aside id (λ e. far (sym e)) ∙ is.aside;
       stage = (
         stage,
         ap (λ (v : DomLocal Pool Seat). v.hand) local ∙ left.same.hand ∙ ready_hand W old st reached stands survey id ready,
@@ -187,7 +197,7 @@ module _ {Pool Seat : Type 0} (W : World Pool Seat) (old : Machine Pool Seat) (s
           child = fork.child;
           begun = one_child;
           flight = flight;
-          there = has_begun.flies;
+          there = pair.now_there;
           parent = refl;
           left_is = sym (first_shared x.own some_pages) ∙ ap (left_to_share x.own) (sym left.begun.first);
         },
@@ -198,13 +208,19 @@ module _ {Pool Seat : Type 0} (W : World Pool Seat) (old : Machine Pool Seat) (s
     flies : IsFlight W new fork.child flight (part_at after id)
     flies = record {
       child = refl;
-      fork = subst (λ (place : Place Pool Seat). IsForkIn W new place flight) (sym has_begun.now) (subst (λ (v : DomLocal Pool Seat). IsForkInHand W new.pool v fork) (sym local) left.begun.in_hand);
+      fork = subst (λ (place : Place Pool Seat). IsForkIn W new place flight) (sym pair.now_here) (subst (λ (v : DomLocal Pool Seat). IsForkInHand W new.pool v fork) (sym local) left.begun.in_hand);
       begun = ap (λ (v : Part). v.guest.begun) turns.here ∙ one_child;
       aside = left.begun.aside ∙ ap (λ (i : ℕ). length (exposed_of i old.hv.heap.stock)) is.id_is ∙ sym (ap (λ (xs : List ExposedFrame). length xs) exposed_same);
     }
 
-    stood : IsStood (rows_of old) after.books
-    stood = (stands.colours.0, stands_line stands.colours.0 (rows_of old) st.books id x.own Nothing (Begun fork.child) stands.colours.1 (in_books W old st reached stands id l ready.here) tt (λ e. cc))
+    -- the child has begun none
+    none : HasNone new.hv.heap.stock fork.child (part_at after fork.child)
+    none = none_same old.hv.heap.stock new.hv.heap.stock fork.child (part_at st fork.child) (part_at after fork.child) (ap (exposed_of fork.child) left.begun.stock) (turns.others fork.child far)
+        (subst (λ (place : Place Pool Seat). IsPlace W old fork.child place (part_at st)) free_place (stands.each fork.child)).0
+
+    stood : IsStood (rows_of new) after.books
+    stood = subst (λ (rows : List (List ℕ)). IsStood rows after.books) (sym (pair_rows W old new id fork.child l Empty (Domain k) (InFlight flight) pair (ap (λ ps. row_frames (frames_in ps) (away_in old.hv.heap.stock id) 0) pages) refl))
+        (stands.colours.0, stands_line stands.colours.0 (rows_of old) st.books id x.own Nothing (Begun fork.child) stands.colours.1 (in_books W old st reached stands id l ready.here) tt (λ e. cc))
 
     -- the turn
     pub clone_begun : k.guest.stage ≡ guest.Forking → k.guest.dom ≡ l.guest.dom → IsOwnHalf W new.pool k (own_behind x.own Clone (Begun fork.child) None)
@@ -212,7 +228,7 @@ module _ {Pool Seat : Type 0} (W : World Pool Seat) (old : Machine Pool Seat) (s
     clone_begun stage dom half =
         let plain : IsRow old.script st id sh (Begun fork.child) = row ∙ ap (λ (v : Shared). locked v (Begun fork.child)) shared_is in
         subst (λ (t : Done). Took W old new t (Entered (record { entry = Line id l.guest.line; reply = Begun fork.child }))) (sym (turn_is W old st reached stands survey id ready sh (Begun fork.child) plain)) (record {
-          stands = begun_stands W old new id fork.child l k flight has_begun st after stands quiet turns.others (sym shared_is) (subst (IsDomain W new id k) (sym turns.here) (domain stage dom half)) flies stood;
+          stands = pair_stands W old new id fork.child l Empty (Domain k) (InFlight flight) pair st after stands (λ j h. absurd (not_begun x.guest.begun j quiet h)) (λ j off away. turns.others j off) (sym shared_is) (subst (IsDomain W new id k) (sym turns.here) (domain stage dom half)) (none, flies) stood;
           script = left.script;
           moved = refl;
           entry = ap (λ (line : ℕ). record { entry = Line id line; reply = Begun fork.child } ∷ []) (sym is.own.line);

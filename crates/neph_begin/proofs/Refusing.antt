@@ -34,7 +34,8 @@ use Rattle.neph_machine.specs.Surveyed.{IsSurveyed}
 use Rattle.neph_machine.specs.Turned.{Took, Lacked}
 use Rattle.neph_machine.proofs.Reached.{IsReached}
 use Rattle.neph_machine.proofs.OnePlace.{OneDomain, stands_one, one_rows_same}
-use Rattle.neph_lines.proofs.Sparing.{IsKept, half_kept, exposes_kept, spares_swap, within, domain_now, stage_kept, stands_line_alone}
+use Rattle.neph_machine.proofs.Carrying.{exposes_kept}
+use Rattle.neph_lines.proofs.Sparing.{IsKept, half_kept, spares_swap, within, domain_now, stage_kept, stands_line_alone}
 use Rattle.neph_lines.proofs.Copied.{kept_unchanged}
 use Rattle.neph_lines.proofs.NoFrame.{same_shares}
 use Rattle.neph_lines.proofs.Exits.{ready_domain, ready_quiet}
@@ -112,7 +113,7 @@ module _ {Pool Seat : Type 0} (W : World Pool Seat) (old : Machine Pool Seat) (s
       let stage = stage_kept W old st reached stands id l ready.here new k o kept refl left.same.hand quiet part.book part.book.stage is.stage in
       record {
         stands = stands_one W old new id l k o st stands st quiet (λ j far. refl) (stands.shared ∙ sym left.shared) (domain_now W old st reached stands id l ready.here new k o part.own part.book refl kept.id kept.stands half (is.spare ∙ spare) exposes stage)
-            (subst (λ (rows : List (List ℕ)). IsStood rows st.books) (sym (one_rows_same W old new id l k o stands.places pages)) stands.colours);
+            (subst (λ (rows : List (List ℕ)). IsStood rows st.books) (sym (one_rows_same W old new id l k o st stands pages)) stands.colours);
         script = left.script;
         shares = left.shares;
       }

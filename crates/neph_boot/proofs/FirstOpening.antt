@@ -24,7 +24,8 @@ use Rattle.neph_machine.specs.declared.machine.Machine.{Machine}
 use Rattle.neph_machine.specs.Places.{place_at, is_empty}
 use Rattle.neph_machine.specs.StandsFor.{IsPlace}
 use Rattle.neph_boot.specs.Opening.{opened, IsOpening}
-use Rattle.neph_boot.proofs.StartLines.{repeated, opened_none}
+use Rattle.neph_flat.proofs.StartSound.{repeated}
+use Rattle.neph_boot.proofs.StartLines.{opened_none}
 
 map_repeated : {A B : Type 0} (f : A → B) (k : ℕ) (x : A) → map f (replicate k x) ≡ replicate k (f x)
 map_repeated f zero x = refl

@@ -1,5 +1,5 @@
 -- The place of the next domain line, before its domain starts.
-use Rattle.std.proofs.Common.{◌≡◌, ℕ, suc, ◌<◌, ◌≤◌, Bool, true, false, List, [], ◌∷◌, length, get_or, refl, ap, subst, ◌∙◌}
+use Rattle.std.proofs.Common.{◌≡◌, ℕ, suc, ◌<◌, ◌≤◌, true, false, [], length, get_or, refl, ap, subst, ◌∙◌}
 use Rattle.std.specs.Prelude.{is_some}
 use Rattle.std.proofs.lemmas.List.Elements.{All-get_or}
 use Rattle.neph_model.specs.declared.life.Guest.{Guest as Kept}
@@ -14,14 +14,9 @@ use Rattle.neph_machine.specs.declared.place.Place.TheVariants.{Empty, Flight as
 use Rattle.neph_machine.specs.declared.machine.Machine.{Machine}
 use Rattle.neph_machine.specs.Places.{place_at, is_empty}
 use Rattle.neph_machine.specs.StandsFor.{IsPlace}
+use Rattle.neph_machine.proofs.OnePlace.{not_begun, no_name}
 use Rattle.neph_boot.specs.Opening.{opened, IsOpening}
 use Rattle.neph_boot.proofs.StartLines.{opened_begun, opened_dead}
-
-pub not_begun : (xs : List ℕ) (j : ℕ) → xs ≡ [] → xs ≡ j ∷ [] → ⊥
-not_begun xs j e h = cc
-
-pub no_name : (b : Bool) → b ≡ true → b ≡ false → ⊥
-no_name b h k = cc
 
 -- nobody has begun a clone
 pub none_begun : (s : Script) (n j : ℕ) → (part_at (opened n s) j).guest.begun ≡ []

@@ -38,9 +38,10 @@ use Rattle.neph_machine.specs.Places.{place_at, is_empty}
 use Rattle.neph_machine.specs.StandsFor.{Exposes, IsAtStage, IsDomain, IsPlace}
 use Rattle.neph_boot.specs.Opening.{opened, first_lines, AreMarked, IsOpening, HasOpened}
 use Rattle.neph_boot.proofs.StartLines.{IsNext, formed_first, opened_other, opened_here, opened_pages, exposed_low, frames_left}
-use Rattle.neph_boot.proofs.NextLine.{not_begun, no_name, none_begun, line_pages}
+use Rattle.neph_boot.proofs.NextLine.{none_begun, line_pages}
 use Rattle.neph_machine.proofs.Reached.{IsReached, start_reached, live_own, live_sound}
-use Rattle.neph_machine.proofs.Carrying.{Leaves, LeavesParent, place_same}
+use Rattle.neph_machine.proofs.Carrying.{same_live, Leaves, LeavesParent, place_same}
+use Rattle.neph_machine.proofs.OnePlace.{not_begun, no_name, full_small}
 
 name_kept : (a b : Bool) → b ≡ false → a && not b ≡ a
 name_kept true b e = ap not e
@@ -78,9 +79,6 @@ starts_own id n (suc (suc (suc (suc k)))) le some = by (nat_lt k (n - 4)) refl w
       let past : get_or (replicate (n - 4) (Some zero_page)) k None ≡ None = get_or_past (replicate (n - 4) (Some zero_page)) k None (omega (arith, le, length-replicate (n - 4) (Some zero_page))) in
       absurd (no_name _ some (ap is_some past))
 
-same_domain : {Pool Seat : Type 0} (l k : Live Pool Seat) → Domain l ≡ Domain k → l ≡ k
-same_domain l k e = cc
-
 -- a line opens
 module _ {Pool Seat : Type 0} (W : World Pool Seat) (old new : Machine Pool Seat) (n : ℕ) (t : Start) (opening : IsOpening W old n) (well : IsWellFormed old.script) (lt : n < length old.script.starts) (is : get_or old.script.starts n t ≡ t) (many : 8 ≤ t.pages) (few : t.pages ≤ 1024) (did : HasOpened W old new (suc n) t.pages) where
   before : ℕ → Part
@@ -107,16 +105,12 @@ module _ {Pool Seat : Type 0} (W : World Pool Seat) (old new : Machine Pool Seat
   no_flights : (j : ℕ) (f : Flight Pool Seat) → place_at j old.places.items ≡ InFlight f → ⊥
   no_flights j f at = let h = subst (λ (p : Place Pool Seat). IsPlace W old j p (part_at (opened n old.script))) at (opening.each j) in not_begun _ j (none_begun old.script n f.parent) h.1.begun
 
-  full_small : (b : Bool) (j : ℕ) → nat_lt j 64 ≡ b → is_empty (place_at j old.places.items) ≡ false → j < 64
-  full_small true j e full = ltb-true j 64 e
-  full_small false j e full = absurd (no_name true refl (ap is_empty (sym (get_or_past old.places.items j Empty (let k = opening.places in let le = ltb-false j 64 e in omega arith))) ∙ full))
-
   leaves : (j : ℕ) → j ≢ suc n → Leaves W old new (W.names old.hv.heap.seat) j
   leaves j far = record {
     place = other_place j far;
     exposed = other_exposed j far;
     aside = ap (λ (xs : List (List ℕ)). get_or xs j []) did.aside;
-    apart = λ full d x y. no_name (W.names old.hv.heap.seat d) x (ap (W.names old.hv.heap.seat) (eqb-true d j y) ∙ opening.names j (full_small (nat_lt j 64) j refl full) ∙ full);
+    apart = λ full d x y. no_name (W.names old.hv.heap.seat d) x (ap (W.names old.hv.heap.seat) (eqb-true d j y) ∙ opening.names j (full_small old.places.items opening.places j full) ∙ full);
   }
 
   parents : (j : ℕ) (place : Place Pool Seat) → place_at j old.places.items ≡ place → LeavesParent W old new (W.names old.hv.heap.seat) did.script did.spares (part_at (opened n old.script)) (part_at (opened (suc n) old.script)) place
@@ -188,7 +182,7 @@ module _ {Pool Seat : Type 0} (W : World Pool Seat) (old new : Machine Pool Seat
   marked_by : (j : ℕ) (l : Live Pool Seat) → (j ≡ suc n) ⊎ (j ≢ suc n) → place_at j new.places.items ≡ Domain l → AreMarked l.local.own
   marked_by j l (inl e) at =
       let is : Domain did.domain ≡ Domain l = sym now_here ∙ ap (λ (i : ℕ). place_at i new.places.items) (sym e) ∙ at in
-      subst (λ (d : Live Pool Seat). AreMarked d.local.own) (same_domain did.domain l is) marked_here
+      subst (λ (d : Live Pool Seat). AreMarked d.local.own) (same_live did.domain l is) marked_here
   marked_by j l (inr far) at = opening.marked j l (sym (other_place j far) ∙ at)
 
   -- the machine behind the line

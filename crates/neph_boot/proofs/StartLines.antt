@@ -1,19 +1,15 @@
 -- The states at the start of a script's first lines.
-use Rattle.std.proofs.Common.{◌≡◌, ◌≢◌, ℕ, zero, suc, ◌+◌, ◌-◌, ◌==◌, ◌<◌, ◌≤◌, Bool, true, false, cond, List, [], ◌∷◌, ◌++◌, length, get_or, set, replicate, take, drop, drop-cons, Some, None, All, refl, sym, ap, ◌∙◌, arith}
+use Rattle.std.proofs.Common.{◌≡◌, ◌≢◌, ℕ, zero, suc, ◌+◌, ◌-◌, ◌==◌, ◌<◌, ◌≤◌, Bool, true, false, List, [], ◌∷◌, ◌++◌, length, get_or, set, replicate, take, drop, drop-cons, Some, None, All, refl, sym, ap, ◌∙◌, arith}
 use Rattle.std.specs.Prelude.{is_some}
-use Rattle.std.specs.Cmp.{nat_cmp_total}
-use Rattle.std.specs.Ordering.{nat_cmp, eq_by_cmp, is_eq}
-use Rattle.std.specs.declared.cmp.Ordering.TheVariants.{Less, Equal, Greater}
 use Rattle.std.specs.FinMap as fm
 use Rattle.std.proofs.lemmas.Bool.{false≢true, eqb-true, eqb-false}
-use Rattle.std.proofs.lemmas.List.{length-set, length-append, length-replicate, get_or-set_same, get_or-set_other, ext_get_or}
+use Rattle.std.proofs.lemmas.List.{length-set, get_or-set_same, get_or-set_other, ext_get_or}
 use Rattle.std.proofs.lemmas.List.Elements.{All-cons, All-head, All-tail, All-nil}
 use Rattle.std.proofs.lemmas.List.Sums.{sum_by-cons}
 use Rattle.neph_model.specs.declared.book.Book.{Book}
 use Rattle.neph_model.specs.declared.script.Script.{Script}
 use Rattle.neph_model.specs.declared.script.Start.{Start}
 use Rattle.neph_model.specs.declared.book.Stage.TheVariants.{Ready}
-use Rattle.neph_model.specs.Memory.{zero_page}
 use Rattle.neph_model.specs.WellFormed.{IsWellFormed, IsWellFormedStart, frames_of_starts}
 use Rattle.neph_model.specs.Machine.{Exposed, no_own, no_guest}
 use Rattle.neph_model.specs.Start.{start_own, start_life, start_exposed, started_512s, of_starts, places}
@@ -21,12 +17,8 @@ use Rattle.neph_model.specs.Books.{no_book, start_books, start_state}
 use Rattle.neph_runs.specs.Orderly.{Seat as Part, seat as part_at}
 use Rattle.neph_runs.proofs.Seats.{same_seat}
 use Rattle.neph_runs.proofs.Opening.{opens_at, no_guests}
+use Rattle.neph_flat.proofs.StartSound.{repeated, length_places, far_pages}
 use Rattle.neph_boot.specs.Opening.{first_lines, opened}
-
-pub repeated : {A : Type 0} (k i : ℕ) (x : A) → get_or (replicate k x) i x ≡ x
-repeated zero i x = refl
-repeated (suc k) zero x = refl
-repeated (suc k) (suc i) x = repeated k i x
 
 -- one line more leaves what is made of each other line
 starts_other : {A : Type 0} (none : A) (f : ℕ → Start → A) (ts : List Start) (m n k l i : ℕ) → i ≢ n → get_or (of_starts f m (take (suc n) ts) ++ replicate k none) i none ≡ get_or (of_starts f m (take n ts) ++ replicate l none) i none
@@ -126,12 +118,6 @@ opened_here s n d well lt =
     }
 
 -- the exposed pages behind one line more
-places_long : {A : Type 0} (none : A) (f : ℕ → Start → A) (ts : List Start) → length ts ≤ 63 → length (places none f ts) ≡ 64
-places_long none f ts few = let e = made 1 ts in omega (arith, few, length-append (of_starts f 1 ts) (replicate (63 - length ts) none), e, length-replicate (63 - length ts) none) where
-  made : (m : ℕ) (xs : List Start) → length (of_starts f m xs) ≡ length xs
-  made m [] = refl
-  made m (x ∷ xs) = let e = made (m + 1) xs in omega arith
-
 pub opened_pages : (s : Script) (n : ℕ) → IsWellFormed s → n < length s.starts → set (opened n s).machine.shared.pages (suc n) start_exposed ≡ (opened (suc n) s).machine.shared.pages
 opened_pages s n well lt = ext_get_or fm.empty (set old (suc n) start_exposed) new (length-set old (suc n) start_exposed ∙ long n ∙ sym (long (suc n))) (λ i l. at i) where
   old : List Exposed
@@ -141,7 +127,7 @@ opened_pages s n well lt = ext_get_or fm.empty (set old (suc n) start_exposed) n
   new = places fm.empty (λ n t. start_exposed) (take (suc n) s.starts)
 
   long : (m : ℕ) → length (places {X = Exposed} fm.empty (λ n t. start_exposed) (take m s.starts)) ≡ 64
-  long m = places_long {A = Exposed} fm.empty (λ n t. start_exposed) (take m s.starts) (let e = take_small m s.starts in omega (arith, well.few))
+  long m = length_places {X = Exposed} fm.empty (λ n t. start_exposed) (take m s.starts) (let e = take_small m s.starts in omega (arith, well.few))
 
   none : Start
   none = record { program = 0; pages = 0; limit = 0 }
@@ -156,32 +142,13 @@ opened_pages s n well lt = ext_get_or fm.empty (set old (suc n) start_exposed) n
         ap (λ (q : ℕ). get_or (set old (suc n) start_exposed) q fm.empty) same ∙ here ∙ sym there ∙ ap (λ (q : ℕ). get_or new q fm.empty) (sym same)
     by false e = get_or-set_other old (suc n) i start_exposed fm.empty (eqb-false i (suc n) e) ∙ sym (ap (λ (x : Part). x.exposed) (opened_other s n i (eqb-false i (suc n) e)))
 
-far_key : (a b : ℕ) → a ≢ b → eq_by_cmp nat_cmp a b ≡ false
-far_key a b far = elim (nat_cmp a b) as (λ r. nat_cmp a b ≡ r → is_eq r ≡ false) [ Less ↦ λ e. refl | Equal ↦ λ e. absurd (far (fm.nat_cmp-IsAntisymmetric a b e)) | Greater ↦ λ e. refl ] refl
-
 -- the exposed pages at the start have numbers below 4
 pub exposed_low : (q : ℕ) → is_some (fm.get start_exposed q) ≡ true → q < 4
 exposed_low zero some = omega arith
 exposed_low (suc zero) some = omega arith
 exposed_low (suc (suc zero)) some = omega arith
 exposed_low (suc (suc (suc zero))) some = omega arith
-exposed_low (suc (suc (suc (suc k)))) some = absurd (false≢true (sym none ∙ some)) where
-  q : ℕ
-  q = suc (suc (suc (suc k)))
-
-  none : is_some (fm.get start_exposed (suc (suc (suc (suc k))))) ≡ false
-  none =
-      let empty : Exposed = fm.empty in
-      let one = fm.insert empty 1 zero_page in
-      let two = fm.insert one 2 zero_page in
-      let a = far_key q 3 (λ e. absurd (omega (arith, e))) in
-      let b = far_key q 2 (λ e. absurd (omega (arith, e))) in
-      let c = far_key q 1 (λ e. absurd (omega (arith, e))) in
-      ap is_some
-      (fm.get-insert nat_cmp_total two 3 zero_page q ∙ ap (λ v. cond v (Some zero_page) (fm.get two q)) a
-      ∙ fm.get-insert nat_cmp_total one 2 zero_page q ∙ ap (λ v. cond v (Some zero_page) (fm.get one q)) b
-      ∙ fm.get-insert nat_cmp_total empty 1 zero_page q ∙ ap (λ v. cond v (Some zero_page) (fm.get empty q)) c
-      ∙ fm.get-empty nat_cmp q)
+exposed_low (suc (suc (suc (suc k)))) some = absurd (false≢true (sym (ap is_some (far_pages (suc (suc (suc (suc k)))) (omega arith))) ∙ some))
 
 starts_past : {A : Type 0} (none : A) (f : ℕ → Start → A) (ts : List Start) (m n k : ℕ) → get_or (of_starts f m (take n ts) ++ replicate k none) n none ≡ none
 starts_past none f ts m zero k = repeated k 0 none
@@ -195,7 +162,7 @@ opened_dead s n = ap is_some (starts_past None (λ i t. Some (start_life i t)) s
 -- before the first line the state has nothing
 pub opened_none : (s : Script) (j : ℕ) → part_at (opened 0 s) j ≡ record { own = no_own; life = None; guest = no_guest; exposed = fm.empty; book = no_book }
 opened_none s zero = refl
-opened_none s (suc j) = same_seat _ _ (repeated 63 j no_own) (repeated 63 j None) (no_guests 64 (suc j)) (repeated {A = Exposed} 63 j fm.empty) (repeated 63 j no_book)
+opened_none s (suc j) = same_seat _ _ (repeated 63 j no_own) (repeated 63 j None) (no_guests 64 (suc j)) (repeated {X = Exposed} 63 j fm.empty) (repeated 63 j no_book)
 
 -- the frames of the lines that are left
 pub frames_left : (s : Script) (n : ℕ) (d : Start) → n < length s.starts → frames_of_starts (drop n s.starts) ≡ ((get_or s.starts n d).pages + 1 + started_512s (get_or s.starts n d).pages) + frames_of_starts (drop (suc n) s.starts)

@@ -8,8 +8,8 @@ ghost use Rattle.neph_memory.specs.declared.room.TheConstants.{MAX_HELD};
 ghost use Rattle.neph_rows.specs.Records.{records_in};
 ghost use Rattle.neph_boot.specs.Opening.{IsOpening};
 
-use crate::registry::start_registry;
 use neph_base::{IDS, NoMemory};
+use neph_flat::start_registry;
 use neph_heap::Heap;
 use neph_hv::Hv;
 use neph_machine::{Machine, Place};

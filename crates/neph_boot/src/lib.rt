@@ -4,7 +4,6 @@
 
 mod blank;
 mod domain;
-mod registry;
 mod start;
 #[cfg(test)]
 mod tests;

@@ -30,15 +30,16 @@ use Rattle.neph_heap.specs.Lists.{exposed_of, aside_of, frame_in}
 use Rattle.neph_heap.specs.Heap.{IsBorn}
 use Rattle.neph_heap.specs.Pages.{pages_in}
 use Rattle.neph_heap.proofs.Maps.{shown_is}
-use Rattle.neph_machine.specs.declared.place.Place.TheVariants.{Domain}
+use Rattle.neph_machine.specs.declared.place.Place.TheVariants.{Flight as InFlight, Domain}
 use Rattle.neph_machine.specs.declared.place.Flight.{Flight}
 use Rattle.neph_machine.specs.declared.machine.Machine.{Machine}
 use Rattle.neph_machine.specs.StandsFor.{Exposes, IsDomain, StandsFor}
 use Rattle.neph_machine.proofs.Reached.{IsReached}
-use Rattle.neph_commit.proofs.Taken.{IsPair}
-use Rattle.neph_commit.proofs.Pairs.{PairMoved}
-use Rattle.neph_commit.proofs.Forked.{domain, has_pages}
-use Rattle.neph_commit.proofs.Kept.{memory_kept, exposes_kept}
+use Rattle.neph_machine.proofs.Carrying.{exposes_kept}
+use Rattle.neph_machine.proofs.Paired.{IsPair, domain}
+use Rattle.neph_machine.proofs.Pairs.{PairMoved}
+use Rattle.neph_commit.proofs.Forked.{has_pages}
+use Rattle.neph_commit.proofs.Kept.{memory_kept}
 
 -- the guest of a domain behind a commit at this line
 abbrev pub guest_then : ℕ → ℕ → Bool → Guest
@@ -66,7 +67,7 @@ module _ {Pool Seat : Type 0} (W : World Pool Seat) (old new : Machine Pool Seat
     (l : Live Pool Seat) (f : Flight Pool Seat) (d c : DomLocal Pool Seat) where
   -- A commit made the child live, with what its parent had, and left the parent's memory alone.
   pub record HasCommitted : Type 0 where
-    pub pair : PairMoved W old new id child l f (Domain (live_then id l.guest.line false d))
+    pub pair : PairMoved W old new id child l (InFlight f) (Domain (live_then id l.guest.line false d))
         (Domain (live_then child l.guest.line true c))
     pub stands : IsStanding W new.pool d
     pub same : IsUnchanged W old.pool l.local new.pool d

@@ -27,7 +27,7 @@ use Rattle.neph_accounts.specs.Colours.{IsStood, new_frames, IsChildRow}
 use Rattle.neph_accounts.proofs.Handovers.{among_some}
 use Rattle.neph_accounts.proofs.Plainly.{commit_follows}
 use Rattle.neph_accounts.proofs.Times.{times_cons, one_at, one_self, one_else}
-use Rattle.neph_machine.specs.declared.place.Place.TheVariants.{Domain}
+use Rattle.neph_machine.specs.declared.place.Place.TheVariants.{Flight as InFlight, Domain}
 use Rattle.neph_machine.specs.declared.place.Flight.{Flight}
 use Rattle.neph_machine.specs.declared.machine.Machine.{Machine}
 use Rattle.neph_machine.specs.Rows.{frames_in, away_in, row_of, rows_of}
@@ -38,9 +38,8 @@ use Rattle.neph_machine.proofs.OnePlace.{row_is}
 use Rattle.neph_machine.proofs.Listed.{frame_is}
 use Rattle.neph_machine.proofs.Exposing.{exposed_listed}
 use Rattle.neph_machine.proofs.FrameLaws.{row_frame, fresh_once, fresh_unpaged}
-use Rattle.neph_commit.proofs.Taken.{IsPair}
-use Rattle.neph_commit.proofs.Pairs.{pair_row}
-use Rattle.neph_commit.proofs.Forked.{domain}
+use Rattle.neph_machine.proofs.Paired.{IsPair, domain}
+use Rattle.neph_machine.proofs.Pairs.{pair_row}
 use Rattle.neph_commit.proofs.Born.{HasCommitted, live_then, child_exposes}
 
 -- a row has a frame for each page
@@ -216,8 +215,8 @@ module _ {Pool Seat : Type 0} (W : World Pool Seat) (old new : Machine Pool Seat
       commit_follows (rows_of old) (rows_of new) st.books id child o row stands.colours
       (let lt = did.pair.within in omega (arith, books, lt))
       (let lt = did.pair.below in omega (arith, books, lt)) (λ e. did.pair.far (sym e))
-      (pair_row W old new id child l f _ _ did.pair same_row)
+      (pair_row W old new id child l (InFlight f) _ _ did.pair same_row)
       (subst (λ (xs : List ℕ). IsChildRow o xs row) (sym parent_row) child_row)
-      (fresh_once W old st survey reached stands child f did.pair.flies (new_frames o 0 row) news)
-      (fresh_unpaged W old st survey reached stands child f did.pair.flies (new_frames o 0 row)
+      (fresh_once W old st survey reached stands child f did.pair.there (new_frames o 0 row) news)
+      (fresh_unpaged W old st survey reached stands child f did.pair.there (new_frames o 0 row)
       news)

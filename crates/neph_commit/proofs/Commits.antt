@@ -17,12 +17,12 @@ use Rattle.neph_pool.specs.World.{World, Spares}
 use Rattle.neph_memory.specs.declared.dom_local.DomLocal.{DomLocal}
 use Rattle.neph_memory.specs.Domains.{IsStanding, IsUnchanged}
 use Rattle.neph_local.specs.Copies.{IsChildOf}
-use Rattle.neph_local.specs.Forks.{Forks}
+use Rattle.neph_local.specs.Forks.{Forks, NoPageLeft}
 use Rattle.neph_guest.specs.declared.live.Live.{Live}
 use Rattle.neph_heap.specs.Lists.{Lists, exposed_of, aside_of}
 use Rattle.neph_heap.specs.Heap.{IsHeap, IsBorn}
 use Rattle.neph_hv.specs.Hv.{shared_in}
-use Rattle.neph_machine.specs.declared.place.Place.TheVariants.{Empty, Domain}
+use Rattle.neph_machine.specs.declared.place.Place.TheVariants.{Empty, Flight as InFlight, Domain}
 use Rattle.neph_machine.specs.declared.place.Flight.{Flight}
 use Rattle.neph_machine.specs.declared.machine.Machine.{Machine}
 use Rattle.neph_machine.specs.declared.turn.Turn.TheVariants.{Noted as Entered}
@@ -30,10 +30,10 @@ use Rattle.neph_machine.specs.Surveyed.{IsSurveyed}
 use Rattle.neph_machine.specs.StandsFor.{StandsFor}
 use Rattle.neph_machine.specs.Turned.{Took}
 use Rattle.neph_machine.proofs.Reached.{IsReached}
-use Rattle.neph_commit.proofs.Pairs.{PairMoved, pair_stands}
+use Rattle.neph_machine.proofs.Paired.{IsPair, domain, flight, begun, forks}
+use Rattle.neph_machine.proofs.Pairs.{PairMoved, one_begun, pair_stands}
 use Rattle.neph_commit.proofs.Moved.{moved}
-use Rattle.neph_commit.proofs.Taken.{IsPair}
-use Rattle.neph_commit.proofs.Forked.{domain, flight, begun, begun_there, forks, none_left}
+use Rattle.neph_commit.proofs.Forked.{begun_there, none_left}
 use Rattle.neph_commit.proofs.Bearing.{turn_committed}
 use Rattle.neph_commit.proofs.Born.{HasCommitted, live_then, parts, shared_now, child_stands, parent_stands}
 use Rattle.neph_commit.proofs.Colours.{colours_stand}
@@ -95,7 +95,7 @@ module _ {Pool Seat : Type 0} (W : World Pool Seat) (old : Machine Pool Seat) (s
   pages : IsBorn old.hv.heap.stock new.hv.heap.stock child
   pages = subst (IsBorn old.hv.heap.stock new.hv.heap.stock) child_is was.pages
 
-  pair : PairMoved W old new id child l f (Domain (live_then id l.guest.line false d))
+  pair : PairMoved W old new id child l (InFlight f) (Domain (live_then id l.guest.line false d))
       (Domain (live_then child l.guest.line true c))
   pair = moved W old st reached stands id child l f both new
       (Domain (live_then id l.guest.line false d)) (Domain (live_then child l.guest.line true c))
@@ -118,9 +118,9 @@ module _ {Pool Seat : Type 0} (W : World Pool Seat) (old : Machine Pool Seat) (s
 
   -- the commit is the turn of the domain
   pub commit_took : IsSurveyed W
-      → Took W old new (turn old.script st (Dom id))
+      → NoPageLeft l.local.own.map.pages f.fork.next → Took W old new (turn old.script st (Dom id))
       (Entered (record { entry = Commit id l.guest.line; reply = reply }))
-  commit_took survey =
+  commit_took survey none =
       let begun = begun W old st reached stands id child l f both in
       let is = domain W old st reached stands id child l f both in
       let hand = (forks W old st reached stands id child l f both).3 in
@@ -128,11 +128,11 @@ module _ {Pool Seat : Type 0} (W : World Pool Seat) (old : Machine Pool Seat) (s
       subst (λ (e : Done). Took W old new e
       (Entered (record { entry = Commit id l.guest.line; reply = reply })))
       (sym (turn_committed old.script st id child is.live
-      (none_left W old st reached stands id child l f both) begun))
+      (none_left W old st reached stands id child l f both none) begun))
       (record {
-        stands = pair_stands W old new id child l f (Domain (live_then id l.guest.line false d))
+        stands = pair_stands W old new id child l (InFlight f) (Domain (live_then id l.guest.line false d))
             (Domain (live_then child l.guest.line true c)) pair st (born old.script st id child)
-            stands begun changed.others
+            stands (λ j h. one_begun _ j child h begun) changed.others
             (shared_now W old new id child l f d c both did st reached stands)
             (parent_stands W old new id child l f d c both did st reached stands hand)
             (child_stands W old new id child l f d c both did st reached stands)

@@ -1,20 +1,13 @@
 -- A memory that a call has left as it was.
-use Rattle.std.proofs.Common.{◌≡◌, ℕ, ◌<◌, List, length, sym, ap, subst, ◌∙◌}
-use Rattle.std.specs.Prelude.{is_some, not}
+use Rattle.std.proofs.Common.{length, ap}
 use Rattle.neph_model.specs.declared.own.Own.{Own as Half}
 use Rattle.neph_pool.specs.World.{World}
-use Rattle.neph_gmap.specs.declared.page.Page.{Page}
 use Rattle.neph_memory.specs.declared.dom_local.DomLocal.{DomLocal}
 use Rattle.neph_memory.specs.declared.own.Own.{Own as Memory}
-use Rattle.neph_memory.specs.Pages.{frame_at}
 use Rattle.neph_memory.specs.Domains.{IsUnchanged, domain_page, domain_mapping, domain_leaf}
 use Rattle.neph_memory.specs.OwnHalf.{IsMemoryOf}
 use Rattle.neph_memory.proofs.HalfParts.{same}
 use Rattle.neph_local.proofs.Stepping.{unchanged_page, unchanged_mapping, unchanged_leaf}
-use Rattle.neph_guest.specs.declared.live.Live.{Live}
-use Rattle.neph_heap.specs.declared.exposed_frame.ExposedFrame.{ExposedFrame}
-use Rattle.neph_heap.specs.Lists.{Lists, exposed_of, frame_in}
-use Rattle.neph_machine.specs.StandsFor.{Exposes}
 
 -- it means what it did
 pub memory_kept : {Pool Seat : Type 0} (W : World Pool Seat) (p : Pool) (d : DomLocal Pool Seat)
@@ -27,15 +20,3 @@ memory_kept W p d q e o kept h =
     (ap (λ (m : Memory). length m.map.pages) kept.own)
     (unchanged_page W p d q e kept) (λ u lt. unchanged_mapping W p d q e kept u)
     (λ g lt. unchanged_leaf W p d q e kept g)
-
--- the same pages are exposed
-pub exposes_kept : {Pool Seat : Type 0} (s t : Lists) (id : ℕ) (l k : Live Pool Seat)
-    → exposed_of id t ≡ exposed_of id s → k.local.own.map.pages ≡ l.local.own.map.pages
-    → Exposes s id l → Exposes t id k
-exposes_kept s t id l k e pages h = record {
-  split = λ pfn lt. ap (λ (xs : List ExposedFrame). is_some (frame_in pfn xs)) e
-      ∙ h.split pfn (subst (λ (ps : List Page). pfn < length ps) pages lt)
-      ∙ ap (λ (ps : List Page). not (is_some (frame_at ps pfn))) (sym pages);
-  within = λ pfn here. subst (λ (ps : List Page). pfn < length ps) (sym pages)
-      (h.within pfn (ap (λ (xs : List ExposedFrame). is_some (frame_in pfn xs)) (sym e) ∙ here));
-}

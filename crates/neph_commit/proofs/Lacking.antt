@@ -25,12 +25,11 @@ use Rattle.neph_machine.specs.Rows.{frames_in, away_in, rows_of}
 use Rattle.neph_machine.specs.StandsFor.{HasNone, left_from, IsAtStage, IsDomain, IsForkIn, IsFlight, StandsFor}
 use Rattle.neph_machine.specs.Turned.{Lacked}
 use Rattle.neph_machine.proofs.Reached.{IsReached}
-use Rattle.neph_machine.proofs.Carrying.{none_same}
-use Rattle.neph_commit.proofs.Pairs.{PairMoved, pair_rows, pair_stands}
+use Rattle.neph_machine.proofs.Carrying.{none_same, exposes_kept}
+use Rattle.neph_machine.proofs.Paired.{IsPair, domain, flight, none_yet, begun, forks}
+use Rattle.neph_machine.proofs.Pairs.{PairMoved, one_begun, pair_rows, pair_stands}
 use Rattle.neph_commit.proofs.Moved.{moved}
-use Rattle.neph_commit.proofs.Taken.{IsPair}
-use Rattle.neph_commit.proofs.Forked.{domain, flight, none_yet, begun, forks}
-use Rattle.neph_commit.proofs.Kept.{memory_kept, exposes_kept}
+use Rattle.neph_commit.proofs.Kept.{memory_kept}
 
 -- the child in flight that a fork of a domain is
 abbrev pub flight_of : {Pool Seat : Type 0} → ℕ → Fork Pool Seat → Flight Pool Seat
@@ -75,7 +74,7 @@ module _ {Pool Seat : Type 0} (W : World Pool Seat) (old : Machine Pool Seat) (s
   born : (part_at st id).guest.begun ≡ child ∷ []
   born = begun W old st reached stands id child l f both
 
-  pair : PairMoved W old new id child l f (Domain k) (InFlight g)
+  pair : PairMoved W old new id child l (InFlight f) (Domain k) (InFlight g)
   pair = moved W old st reached stands id child l f both new (Domain k) (InFlight g) refl refl
       was.places was.script
       (λ j away. ap (exposed_of j) was.stock) (λ j away. ap (aside_of j) was.stock) was.names
@@ -136,15 +135,15 @@ module _ {Pool Seat : Type 0} (W : World Pool Seat) (old : Machine Pool Seat) (s
       (none_yet W old st reached stands id child l f both)
 
   rows_kept : rows_of new ≡ rows_of old
-  rows_kept = pair_rows W old new id child l f (Domain k) (InFlight g) pair
+  rows_kept = pair_rows W old new id child l (InFlight f) (Domain k) (InFlight g) pair
       (ap (λ (o : Memory). row_frames (frames_in o.map.pages) (away_in old.hv.heap.stock id) 0)
       was.same.own) refl
 
   -- the machine stands for the state that it stood for
   pub commit_lacked : Lacked W old new st
   commit_lacked = record {
-    stands = pair_stands W old new id child l f (Domain k) (InFlight g) pair st st stands born
-        (λ j off away. refl) (stands.shared ∙ sym was.shared) domain_now (none_now, flight_now)
+    stands = pair_stands W old new id child l (InFlight f) (Domain k) (InFlight g) pair st st stands
+        (λ j h. one_begun _ j child h born) (λ j off away. refl) (stands.shared ∙ sym was.shared) domain_now (none_now, flight_now)
         (subst (λ (rows : List (List ℕ)). IsStood rows st.books) (sym rows_kept) stands.colours);
     script = was.script;
     shares = was.shares;

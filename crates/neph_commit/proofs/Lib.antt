@@ -1,6 +1,5 @@
 pub mod Taken
 pub mod Kept
-pub mod Pairs
 pub mod Forked
 pub mod Moved
 pub mod Bearing

@@ -12,16 +12,9 @@ use Rattle.neph_machine.specs.declared.place.Flight.{Flight}
 use Rattle.neph_machine.specs.declared.machine.Machine.{Machine}
 use Rattle.neph_machine.specs.Places.{place_at}
 use Rattle.neph_machine.specs.Stages.{IsAt, IsForked}
-
-same_live : {Pool Seat : Type 0} (l k : Live Pool Seat) → Domain l ≡ Domain k → l ≡ k
-same_live l k e = cc
-
-same_flight : {Pool Seat : Type 0} (f g : Flight Pool Seat) → InFlight f ≡ InFlight g → f ≡ g
-same_flight f g e = cc
-
-no_child : {Pool Seat : Type 0} (l : Live Pool Seat) (f : Flight Pool Seat) → Domain l ≡ InFlight f
-    → ⊥
-no_child l f e = cc
+use Rattle.neph_machine.proofs.Carrying.{same_live, same_flight}
+use Rattle.neph_machine.proofs.OnePlace.{no_flight}
+use Rattle.neph_machine.proofs.Paired.{IsPair}
 
 -- a domain whose guest became this
 pub with_guest : {Pool Seat : Type 0} (p q : Guest) (d : DomLocal Pool Seat) → p ≡ q
@@ -40,31 +33,27 @@ filled i j e x u y v xs a b c d to_a to_b to_c to_u to_d to_v =
 
 module _ {Pool Seat : Type 0} (m : Machine Pool Seat) (id child : ℕ) (l : Live Pool Seat)
     (f : Flight Pool Seat) where
-  -- The domain l and its child in flight f stand in their places. No page is left to share.
-  pub record IsPair : Type 0 where
-    pub here : place_at id m.places.items ≡ Domain l
-    pub flies : place_at child m.places.items ≡ InFlight f
-    pub parent : f.parent ≡ id
-    pub forking : l.guest.stage ≡ Forking
-    pub none : NoPageLeft l.local.own.map.pages f.fork.next
-
-  -- the domain that was taken out of its place, which left these places, and then the child
+  -- The domain that was taken out of its place, which left these places, and then the child. No page
+  -- is left to share.
   pub pair_taken : IsAt m id Forking → IsForked m id child → (left : List (Place Pool Seat))
       → place_at id m.places.items ≡ Domain l → left ≡ set m.places.items id Empty
-      → place_at child left ≡ InFlight f → IsPair
-  pair_taken at forked left here out there = record {
-    here = here;
-    flies = flies;
-    parent = ap (λ (x : Flight Pool Seat). x.parent) (sym flight_is) ∙ forked.parent;
-    forking = ap (λ (x : Live Pool Seat). x.guest.stage) (same_live l at.live (sym here ∙ at.here))
-        ∙ at.at;
-    none = subst (λ (x : Flight Pool Seat). NoPageLeft l.local.own.map.pages x.fork.next) flight_is
+      → place_at child left ≡ InFlight f
+      → IsPair m id child l f × NoPageLeft l.local.own.map.pages f.fork.next
+  pair_taken at forked left here out there = (
+    record {
+      here = here;
+      flies = flies;
+      parent = ap (λ (x : Flight Pool Seat). x.parent) (sym flight_is) ∙ forked.parent;
+      forking = ap (λ (x : Live Pool Seat). x.guest.stage) (same_live l at.live (sym here ∙ at.here))
+          ∙ at.at;
+    },
+    subst (λ (x : Flight Pool Seat). NoPageLeft l.local.own.map.pages x.fork.next) flight_is
         (subst (λ (x : Live Pool Seat). NoPageLeft x.local.own.map.pages forked.flight.fork.next)
-        (same_live forked.live l (sym forked.there ∙ here)) forked.none);
-  } where
+        (same_live forked.live l (sym forked.there ∙ here)) forked.none),
+  ) where
     apart : child ≢ id
-    apart e = no_child l forked.flight (sym here ∙ ap (λ (i : ℕ). place_at i m.places.items) (sym e)
-        ∙ forked.flies)
+    apart e = no_flight l forked.flight (sym here
+        ∙ ap (λ (i : ℕ). place_at i m.places.items) (sym e) ∙ forked.flies)
 
     flies : place_at child m.places.items ≡ InFlight f
     flies = sym (get_or-set_other m.places.items id child Empty Empty apart)

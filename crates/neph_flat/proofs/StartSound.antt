@@ -39,7 +39,7 @@ place ts (suc j) = start_at 1 ts j
 abbrev of_place : {X : Type 0} → X → (ℕ → Start → X) → Option (ℕ × Start) → X
 of_place none f o = option_map_or (λ (p : ℕ × Start). f p.0 p.1) o none
 
-repeated : {X : Type 0} (k j : ℕ) (x : X) → get_or (replicate k x) j x ≡ x
+pub repeated : {X : Type 0} (k j : ℕ) (x : X) → get_or (replicate k x) j x ≡ x
 repeated zero j x = refl
 repeated (suc k) zero x = refl
 repeated (suc k) (suc j) x = repeated k j x
@@ -94,7 +94,7 @@ length_starts : {X : Type 0} (f : ℕ → Start → X) (n : ℕ) (ts : List Star
 length_starts f n [] = refl
 length_starts f n (t ∷ ts) = omega (arith, length_starts f (n + 1) ts)
 
-length_places : {X : Type 0} (none : X) (f : ℕ → Start → X) (ts : List Start) → length ts ≤ 16 → length (places none f ts) ≡ 64
+pub length_places : {X : Type 0} (none : X) (f : ℕ → Start → X) (ts : List Start) → length ts ≤ 63 → length (places none f ts) ≡ 64
 length_places none f ts few =
     let k = 63 - length ts in
     omega (arith, few, length-append (of_starts f 1 ts) (replicate k none), length_starts f 1 ts, length-replicate k none)
@@ -105,7 +105,7 @@ start_records s h =
     let next = 1 + length s.starts in
     let P = IsWellFormedStart (length s.programs) in
     record {
-      places = length_places None (λ n t. Some (start_life n t)) s.starts h.few;
+      places = length_places None (λ n t. Some (start_life n t)) s.starts (omega (arith, h.few));
       guests = length-replicate 64 no_guest;
       next_low = omega arith;
       next_high = omega (arith, h.few);
@@ -135,7 +135,7 @@ start_placed s h =
     let P = IsWellFormedStart (length s.programs) in
     let none : Exposed = map.empty in
     let each = each_place (λ id m. HasFew m) P none (λ n t. start_exposed) s.starts h.starts (λ id. omega (arith, map.len-empty nat_cmp (List ℕ))) (λ id p k. few_start) in
-    record { places = length_places none (λ n t. start_exposed) s.starts h.few; few = All-from_get_or HasFew (places none (λ n t. start_exposed) s.starts) none (λ i lt. each i) }
+    record { places = length_places none (λ n t. start_exposed) s.starts (omega (arith, h.few)); few = All-from_get_or HasFew (places none (λ n t. start_exposed) s.starts) none (λ i lt. each i) }
 
 weaker : (o : Option Mapping) (n : ℕ) → IfSome o (λ y. y.pfn < n) → IfSome o (λ y. y.pfn < suc n)
 weaker None n h = tt
@@ -176,7 +176,8 @@ exposed_get q =
     let two = map.insert one 2 zero_page in
     map.get-insert nat_cmp_total two 3 zero_page q ∙ ap (cond (eq_by_cmp nat_cmp q 3) (Some zero_page)) (map.get-insert nat_cmp_total one 2 zero_page q ∙ ap (cond (eq_by_cmp nat_cmp q 2) (Some zero_page)) (map.get-insert nat_cmp_total none 1 zero_page q ∙ ap (cond (eq_by_cmp nat_cmp q 1) (Some zero_page)) (map.get-empty nat_cmp q)))
 
-far_pages : (q : ℕ) → 4 ≤ q → map.get start_exposed q ≡ None
+-- the exposed pages at the start have numbers below 4
+pub far_pages : (q : ℕ) → 4 ≤ q → map.get start_exposed q ≡ None
 far_pages q le =
     let a = far_key q 3 (λ e. absurd (omega (arith, e, le))) in
     let b = far_key q 2 (λ e. absurd (omega (arith, e, le))) in
@@ -218,8 +219,8 @@ pub sound_start : (s : Script) → IsWellFormed s → IsSound s (start_machine s
 sound_start s h =
     record {
       formed = h;
-      places = length_places no_own start_own s.starts h.few;
-      exposed = length_places map.empty (λ n t. start_exposed) s.starts h.few;
+      places = length_places no_own start_own s.starts (omega (arith, h.few));
+      exposed = length_places map.empty (λ n t. start_exposed) s.starts (omega (arith, h.few));
       apart = λ id pfn lt. apart_start s h id pfn lt;
       each = λ id live.
           let own = live_start s h id live in

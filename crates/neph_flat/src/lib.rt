@@ -17,3 +17,4 @@ mod start;
 pub use end::FlatEnd;
 pub use neph_model::{Own, Script, Told};
 pub use plain::Plain;
+pub use start::start_registry;

@@ -6,6 +6,7 @@ ghost use Rattle.neph_model.specs.declared.script.Start.{Start};
 ghost use Rattle.neph_model.specs.Machine.{no_own};
 ghost use Rattle.neph_model.specs.Start.{started_512s, start_vmap, start_pages, start_own, start_life, start_exposed, start_machine, identity_page, places};
 ghost use Rattle.neph_model.specs.WellFormed.{IsWellFormed};
+ghost use Rattle.neph_rows.specs.Records.{records_in};
 ghost use Rattle.neph_flat.specs.Halves.{seen};
 
 use crate::call::no_own;
@@ -23,14 +24,23 @@ pub fn start_halves(alloc: Global, s: &Script) -> Result<Halves, NoMemory>
     ensures { IfOk result (λ a. seen a ≡ start_machine s.now) }
 {
     let starts = s.starts.items();
-    let lives = start_lives(alloc, starts)?;
     let maps = start_maps(alloc, starts)?;
     Ok(Halves {
         alloc,
         own: start_owns(alloc, starts)?,
-        registry: Registry::new(alloc, lives, 1 + starts.len() as u8)?,
+        registry: start_registry(alloc, s)?,
         pages: FlatPages::of(alloc, maps),
     })
+}
+
+/// The hypervisor's tables at the start of a script.
+pub fn start_registry(alloc: Global, s: &Script) -> Result<Registry, NoMemory>
+    requires { IsWellFormed s.now }
+    ensures { IfOk result (λ r. r ≡ records_in (start_machine s.now).shared) }
+{
+    let starts = s.starts.items();
+    let lives = start_lives(alloc, starts)?;
+    Registry::new(alloc, lives, 1 + starts.len() as u8)
 }
 
 // The own half of each id: none of id 0, then those of the starting domains, then none.

@@ -26,13 +26,13 @@ use Rattle.neph_machine.specs.StandsFor.{StandsFor}
 use Rattle.neph_machine.specs.Stages.{IsAt, IsForked}
 use Rattle.neph_machine.specs.Turned.{Took}
 use Rattle.neph_machine.proofs.Reached.{IsReached}
-use Rattle.neph_forks.proofs.Begun as begun
+use Rattle.neph_machine.proofs.Carrying.{same_live}
+use Rattle.neph_machine.proofs.OnePlace.{no_flight}
+use Rattle.neph_machine.proofs.Paired.{IsPair, fork, names_are}
+use Rattle.neph_forks.proofs.Begun.{HasChild, domain, has_child, pair_is}
 use Rattle.neph_forks.proofs.Putting.{PutInto, items_put, put_back}
 use Rattle.neph_forks.proofs.TwoPlaces.{ForkMoved}
 use Rattle.neph_forks.proofs.PageSteps.{SharedPage, step_took}
-
-same_live : {Pool Seat : Type 0} (l k : Live Pool Seat) → Domain l ≡ Domain k → l ≡ k
-same_live l k e = cc
 
 module _ {Pool Seat : Type 0} (W : World Pool Seat) (old : Machine Pool Seat) (st : State) (reached : IsReached old.script st) (stands : StandsFor W old st) (id child : ℕ) (at : IsAt old id Forking)
     (known : slice_get (guest_at id old.hv.registry.tables).begun 0 ≡ Some child) (l : Live Pool Seat) (met : Domain l ≡ place_at id old.places.items) where
@@ -42,25 +42,25 @@ module _ {Pool Seat : Type 0} (W : World Pool Seat) (old : Machine Pool Seat) (s
   forking : l.guest.stage ≡ Forking
   forking = ap (λ (v : Live Pool Seat). v.guest.stage) (same_live l at.live (met ∙ at.here)) ∙ at.at
 
-  has : begun.HasChild old st id child
-  has = begun.has_child W old st stands id child l here forking known
+  has : HasChild old id child
+  has = has_child W old st stands id child l here forking known
 
   far : child ≢ id
-  far = begun.far W old st stands id child l here reached has.begun
+  far e = no_flight l has.flight (met ∙ ap (λ (i : ℕ). place_at i old.places.items) (sym e) ∙ has.flies)
 
   pub standing : IsStanding W old.pool l.local
-  standing = (begun.domain W old st stands id child l here).stands
+  standing = (domain W old st stands id child l here).stands
 
   -- beside the place of the domain, which was emptied, f stands in the place of the child
   module _ (f : Flight Pool Seat) (one : Vec (Place Pool Seat) Global) (emptied : one ≡ with_item old.places id Empty) (beside : InFlight f ≡ place_at child one.items) where
     flies : place_at child old.places.items ≡ InFlight f
     flies = sym (get_or-set_other old.places.items id child Empty Empty far) ∙ ap (λ (v : Vec (Place Pool Seat) Global). place_at child v.items) (sym emptied) ∙ sym beside
 
-    parent : f.parent ≡ id
-    parent = begun.parent_is W old st stands id child l here f flies has
+    both : IsPair old id child l f
+    both = pair_is W old st stands id child l here forking has f flies
 
     pub in_hand : IsForkInHand W old.pool l.local f.fork
-    in_hand = begun.fork_is W old st stands id child l here f flies parent
+    in_hand = fork W old st reached stands id child l f both
 
     -- the domain was put back with the memory d, and the child with the fork g
     module _ (q : Pool) (d : DomLocal Pool Seat) (g : Fork Pool Seat) (places : Vec (Place Pool Seat) Global) (put : PutInto old.places places id child (Domain (record l { local = d })) (InFlight (record f { fork = g })) Empty) where
@@ -74,19 +74,13 @@ module _ {Pool Seat : Type 0} (W : World Pool Seat) (old : Machine Pool Seat) (s
       h = record f { fork = g }
 
       pub took : Spares W (both_names (W.names l.local.seat) (W.names f.fork.seat)) old.pool q → SharedPage W old.pool l.local f.fork q d g → W.shares q ≡ min (W.shares old.pool + 1) (2 ^ 64 - 1) → Took W old (record old { pool = q; places = places }) (turn old.script st (Dom id)) Moved
-      took others page shares = step_took W old new id child l k f h moved page refl refl forking st stands old.script reached shares where
+      took others page shares = step_took W old new id child l k f h moved page refl refl st reached stands both shares where
         moved : ForkMoved W old new id child l k f h
         moved = record {
-          within = begun.within W old st stands id child l here reached has.begun;
-          below = begun.below W old st stands id child l here reached has.begun;
-          far = far;
-          here = here;
-          flies = flies;
-          parent = parent;
           places = items_put old.places places id child (Domain k) (InFlight h) Empty put far;
           script = refl;
           hv = refl;
-          spares = subst (λ (ns : ℕ → Bool). Spares W ns old.pool q) (begun.names_are W old st stands id child l here f flies parent) others;
+          spares = subst (λ (ns : ℕ → Bool). Spares W ns old.pool q) (names_are W old st reached stands id child l f both) others;
           pages = ap (λ (m : GuestPages). m.pages) page.map;
         }
 
@@ -102,6 +96,6 @@ module _ {Pool Seat : Type 0} (W : World Pool Seat) (old : Machine Pool Seat) (s
         there = here;
         flight = f;
         flies = flies;
-        parent = parent;
+        parent = both.parent;
         none = none;
       })

@@ -32,7 +32,8 @@ frames_of xs = map (λ (x : ExposedFrame). x.frame) xs
 
 -- the frame of the page with this number
 abbrev pub frame_in : ℕ → List ExposedFrame → Option ℕ
-frame_in pfn xs = option_map (λ (x : ExposedFrame). x.frame) (find (λ (x : ExposedFrame). x.pfn == pfn) xs)
+frame_in pfn xs = option_map (λ (x : ExposedFrame). x.frame)
+    (find (λ (x : ExposedFrame). x.pfn == pfn) xs)
 
 -- the frames of all exposed pages
 unfoldable pub exposed_frames : List (List ExposedFrame) → List ℕ

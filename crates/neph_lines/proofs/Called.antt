@@ -52,7 +52,8 @@ use Rattle.neph_machine.specs.Turned.{Took}
 use Rattle.neph_machine.proofs.Reached.{IsReached}
 use Rattle.neph_machine.proofs.OnePlace.{OneDomain, stands_one}
 use Rattle.neph_lines.specs.Lines.{told_of}
-use Rattle.neph_lines.proofs.Sparing.{IsKept, half_kept, exposes_kept, was, within, orderly, apart_heap, stood_line}
+use Rattle.neph_machine.proofs.Carrying.{exposes_kept}
+use Rattle.neph_lines.proofs.Sparing.{IsKept, half_kept, was, within, orderly, apart_heap, stood_line}
 use Rattle.neph_lines.proofs.NoFrame.{same_shares}
 use Rattle.neph_lines.proofs.Copied.{heap_spared, flip_apart, kept_unchanged}
 use Rattle.neph_lines.proofs.ReadyLines.{at_line, its, quiet, no_hand}

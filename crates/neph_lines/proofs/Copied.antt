@@ -54,7 +54,8 @@ use Rattle.neph_machine.proofs.Listed.{frame_is}
 use Rattle.neph_machine.proofs.FrameLaws.{own_unpaged}
 use Rattle.neph_lines.proofs.LineTurns.{put_turns, did_alone}
 use Rattle.neph_machine.proofs.OnePlace.{OneDomain, stands_one, one_row, row_is, row_same, one_rows_same}
-use Rattle.neph_lines.proofs.Sparing.{IsKept, half_kept, exposes_kept, was, within, orderly, in_books, apart_heap, domain_now, stage_kept, stands_line_alone}
+use Rattle.neph_machine.proofs.Carrying.{exposes_kept}
+use Rattle.neph_lines.proofs.Sparing.{IsKept, half_kept, was, within, orderly, in_books, apart_heap, domain_now, stage_kept, stands_line_alone}
 use Rattle.neph_lines.proofs.NoFrame.{same_shares}
 use Rattle.neph_lines.proofs.InHand.{row_set, some_of}
 
@@ -123,7 +124,7 @@ module _ {Pool Seat : Type 0} (W : World Pool Seat) (old : Machine Pool Seat) (s
         (half_kept W old.pool new.pool l k kept part.own part.own refl refl refl refl (is.own.line ∙ ap (λ (g : Guest). g.line) (sym same)) (is.own.came ∙ ap (λ (g : Guest). g.came) (sym same)) (is.own.refused ∙ ap (λ (g : Guest). g.failed) (sym same)) is.own)
         (is.spare ∙ ap (λ o. is_some o.spare) (sym u.own)) (exposes_kept old.hv.heap.stock new.hv.heap.stock id l k (ap (λ h. exposed_of id h.heap.stock) hv) (ap (λ m. m.pages) kept.map) is.exposes)
         (stage_kept W old st reached stands id l here new k moved_one kept same u.hand quiet part.book part.book.stage is.stage))
-        (subst (λ rows. IsStood rows st.books) (sym (one_rows_same W old new id l k moved_one stands.places (ap (λ o. o.map.pages) u.own))) stands.colours)
+        (subst (λ rows. IsStood rows st.books) (sym (one_rows_same W old new id l k moved_one st stands (ap (λ o. o.map.pages) u.own))) stands.colours)
 
     -- the line is done in place
     pub took_alone : k.guest.dom ≡ l.guest.dom → k.local.id ≡ l.local.id → IsStanding W new.pool k.local → k.local.own.map ≡ l.local.own.map → k.local.own.spare ≡ l.local.own.spare → k.guest.stage ≡ guest.Ready → k.local.hand ≡ None → part.guest.begun ≡ [] → W.shares new.pool ≡ W.shares old.pool
@@ -159,7 +160,7 @@ module _ {Pool Seat : Type 0} (W : World Pool Seat) (old : Machine Pool Seat) (s
           ∙ ap (λ row. set row pfn f) (sym (row_is old id (within W old st reached stands id l here) ∙ ap (row_of old.hv.heap.stock id) here))
 
       put : RowPut id (set (get_or (rows_of old) id []) pfn f) (rows_of old) (rows_of new)
-      put = subst (λ row. RowPut id row (rows_of old) (rows_of new)) row_moved (one_row W old new id l k moved_one)
+      put = subst (λ row. RowPut id row (rows_of old) (rows_of new)) row_moved (one_row W old new id l k moved_one st stands)
 
       -- its colour is new, as its frame is
       stood_copied : IsSurveyed W → IsStood (rows_of new) (books_after id part.own (Copy pfn) reply.Done st.books)

@@ -50,7 +50,8 @@ use Rattle.neph_machine.specs.Turned.{Took}
 use Rattle.neph_machine.proofs.Reached.{IsReached, fits_page, line_short}
 use Rattle.neph_machine.proofs.OnePlace.{stands_one, one_rows_same}
 use Rattle.neph_lines.proofs.LineTurns.{turn_live, ready_is, did_alone}
-use Rattle.neph_lines.proofs.Sparing.{exposes_kept, was, within, orderly, domain_now, stood_quiet, stands_line_alone, same_live}
+use Rattle.neph_machine.proofs.Carrying.{exposes_kept, same_live}
+use Rattle.neph_lines.proofs.Sparing.{was, within, orderly, domain_now, stood_quiet, stands_line_alone}
 use Rattle.neph_lines.proofs.NoFrame.{same_shares}
 use Rattle.neph_lines.proofs.Alone.{at_some}
 use Rattle.neph_lines.proofs.InHand.{in_hand, copies, shared_true}
@@ -169,4 +170,4 @@ module _ {Pool Seat : Type 0} (W : World Pool Seat) (old : Machine Pool Seat) (s
         stands_one W old new id l k one st stands st quiet (λ j far. refl) (stands.shared ∙ sym (moved_shared W old st reached stands id l here new script hv k spots moves))
         (domain_now W old st reached stands id l here new k one part.own part.book dom same standing half (is.spare ∙ ap is_some (sym spare)) (exposes_kept old.hv.heap.stock new.hv.heap.stock id l k (ap (λ h. exposed_of id h.heap.stock) hv) pages is.exposes)
         (subst (λ (v : Stage). IsAtStage W new id k part v) (sym book_ready) (stage, hand)))
-        (subst (λ rows. IsStood rows st.books) (sym (one_rows_same W old new id l k one stands.places pages)) stands.colours)
+        (subst (λ rows. IsStood rows st.books) (sym (one_rows_same W old new id l k one st stands pages)) stands.colours)

@@ -1,6 +1,6 @@
 -- A domain whose line needs a frame takes a spare, or is told that no frame is left.
-use Rattle.std.proofs.Common.{◌≡◌, ◌≢◌, ℕ, ◌<◌, Bool, true, false, List, [], ◌∷◌, length, get_or, None, refl, sym, ap, subst, ◌∙◌, arith}
-use Rattle.std.specs.Prelude.{is_some, not, IsSome, ◌||◌}
+use Rattle.std.proofs.Common.{◌≡◌, ◌≢◌, ℕ, ◌<◌, Bool, true, false, List, [], length, get_or, set, None, refl, sym, ap, subst, ◌∙◌, arith}
+use Rattle.std.specs.Prelude.{is_some, IsSome, ◌||◌}
 use Rattle.neph_base.specs.declared.command.Command.{Command}
 use Rattle.neph_base.specs.declared.command.Command.TheVariants as command
 use Rattle.neph_base.specs.declared.reply.Reply.{Reply}
@@ -10,6 +10,7 @@ use Rattle.neph_model.specs.declared.book.Book.{Book}
 use Rattle.neph_model.specs.declared.book.Stage.{Stage}
 use Rattle.neph_model.specs.declared.book.Stage.TheVariants as book
 use Rattle.std.proofs.lemmas.Bool.{eqb-true}
+use Rattle.std.proofs.lemmas.List.{set-set}
 use Rattle.neph_model.specs.declared.book.Spends.{Spends}
 use Rattle.neph_model.specs.Machine.{put_own}
 use Rattle.neph_model.specs.Books.{State, put_book, book_spent, fresh_spent}
@@ -19,7 +20,6 @@ use Rattle.neph_runs.proofs.Seats.{book_turns}
 use Rattle.neph_pool.specs.Names.{IsApart, only_name, both_names}
 use Rattle.neph_pool.specs.World.{World, Spares, Stays}
 use Rattle.neph_memory.specs.declared.dom_local.DomLocal.{DomLocal}
-use Rattle.neph_gmap.specs.declared.page.Page.{Page}
 use Rattle.neph_memory.specs.Pages.{frame_at}
 use Rattle.neph_memory.specs.Domains.{IsStanding, KeepsPages, KeepsMap, KeepsLeaves}
 use Rattle.neph_memory.proofs.HalfParts.{same}
@@ -28,7 +28,6 @@ use Rattle.neph_guest.specs.declared.live.Guest.{Guest}
 use Rattle.neph_guest.specs.declared.live.Stage.TheVariants as guest
 use Rattle.neph_guest.specs.OwnHalf.{IsOwnHalf}
 use Rattle.neph_guest.specs.Turns.{IsLineInHand}
-use Rattle.neph_heap.specs.Lists.{Lists, exposed_of, frame_in}
 use Rattle.neph_hv.specs.declared.hv.Hv.{Hv}
 use Rattle.neph_hv.specs.Hv.{IsHv, shared_in}
 use Rattle.neph_accounts.specs.Colours.{Stands, IsStood, CopiesNothing}
@@ -41,7 +40,12 @@ use Rattle.neph_machine.specs.Rows.{rows_of}
 use Rattle.neph_machine.specs.StandsFor.{Exposes, command_of, IsAtStage, IsDomain, IsPlace, StandsFor}
 use Rattle.neph_machine.proofs.Reached.{IsReached, live_ids, live_orderly}
 use Rattle.neph_lines.proofs.LineTurns.{put_turns}
-use Rattle.neph_machine.proofs.OnePlace.{OneDomain, stands_one, one_rows_same}
+use Rattle.neph_machine.proofs.Carrying.{exposes_kept}
+use Rattle.neph_machine.proofs.OnePlace.{not_begun, no_name, OneDomain, stands_one, one_rows_same}
+
+-- what was taken out of a place was put back
+pub put_back : {A : Type 0} (xs ys zs : List A) (i : ℕ) (x e : A) → ys ≡ set xs i e → zs ≡ set ys i x → zs ≡ set xs i x
+put_back xs ys zs i x e out put = put ∙ ap (λ v. set v i x) out ∙ set-set xs i e x
 
 -- from the memory d to the memory e: what is read of the pages, the map and the leaf tables is as before, and so is where each page lies
 pub record IsKept {Pool Seat : Type 0} (W : World Pool Seat) (p : Pool) (d : DomLocal Pool Seat) (q : Pool) (e : DomLocal Pool Seat) : Type 0 where
@@ -76,13 +80,6 @@ module _ {Pool Seat : Type 0} (W : World Pool Seat) (p q : Pool) (l k : Live Poo
   }
   hand_kept _ e h = absurd h
 
--- the same pages are exposed where the same pages are the domain's own
-pub exposes_kept : {Pool Seat : Type 0} (s t : Lists) (id : ℕ) (l k : Live Pool Seat) → exposed_of id t ≡ exposed_of id s → k.local.own.map.pages ≡ l.local.own.map.pages → Exposes s id l → Exposes t id k
-exposes_kept s t id l k e same h = record {
-  split = λ pfn lt. ap (λ xs. is_some (frame_in pfn xs)) e ∙ h.split pfn (subst (λ (ps : List Page). pfn < length ps) same lt) ∙ ap (λ (ps : List Page). not (is_some (frame_at ps pfn))) (sym same);
-  within = λ pfn here. subst (λ (ps : List Page). pfn < length ps) (sym same) (h.within pfn (ap (λ xs. is_some (frame_in pfn xs)) (sym e) ∙ here));
-}
-
 -- what spares all but two seats spares all but these, in either order
 pub spares_swap : {Pool Seat : Type 0} (W : World Pool Seat) (ms ns ks : ℕ → Bool) (p q : Pool) → ns ≡ ks → Spares W (both_names ms ns) p q → Spares W (both_names ks ms) p q
 spares_swap W ms ns ks p q e s = record {
@@ -99,9 +96,6 @@ spares_swap W ms ns ks p q e s = record {
 
   swap : (names : ℕ → Bool) → IsApart (both_names ks ms) names → IsApart (both_names ms ns) names
   swap names a d x y = a d (or_swap (ms d) (ns d) (ks d) (ap (λ (f : ℕ → Bool). f d) e) x) y
-
-some_begun : (xs : List ℕ) (child : ℕ) → xs ≡ [] → xs ≡ child ∷ [] → ⊥
-some_begun xs child e h = cc
 
 -- What the call for a spare has left: the memory with another spare, and the hypervisor with fewer free frames.
 pub record IsOffered {Pool Seat : Type 0} (W : World Pool Seat) (p : Pool) (h : Hv Pool Seat) (l : Live Pool Seat) (q : Pool) (g : Hv Pool Seat) (d : DomLocal Pool Seat) : Type 0 where
@@ -141,12 +135,9 @@ module _ {Pool Seat : Type 0} (W : World Pool Seat) (old : Machine Pool Seat) (s
 
   -- the hypervisor's seat and the domain's have no name in common
   pub apart_heap : IsApart (W.names old.hv.heap.seat) (W.names l.local.seat)
-  apart_heap d x y = not_both (W.names old.hv.heap.seat id) (ap (W.names old.hv.heap.seat) (sym same) ∙ x) (stands.names id within ∙ ap is_empty here) where
+  apart_heap d x y = no_name (W.names old.hv.heap.seat id) (ap (W.names old.hv.heap.seat) (sym same) ∙ x) (stands.names id within ∙ ap is_empty here) where
     same : d ≡ id
     same = eqb-true d id (sym (ap (λ (f : ℕ → Bool). f d) (was.stands.names ∙ ap only_name was.id_is)) ∙ y)
-
-    not_both : (b : Bool) → b ≡ true → b ≡ false → ⊥
-    not_both b h k = cc
 
   module _ (new : Machine Pool Seat) (k : Live Pool Seat) (one : OneDomain W old new id l k) where
     -- the domain in the new machine, with this own half and book
@@ -168,14 +159,14 @@ module _ {Pool Seat : Type 0} (W : World Pool Seat) (old : Machine Pool Seat) (s
     pub stage_kept : IsKept W old.pool l.local new.pool k.local → k.guest ≡ l.guest → k.local.hand ≡ l.local.hand → part.guest.begun ≡ [] → (b : Book) (at : Stage) → IsAtStage W old id l part at → IsAtStage W new id k (record part { book = b }) at
     stage_kept kept same hand quiet b book.Ready h = (ap (λ (g : Guest). g.stage) same ∙ h.0, hand ∙ h.1)
     stage_kept kept same hand quiet b book.Copying h = (ap (λ (g : Guest). g.stage) same ∙ h.0, subst (λ s. IsLineInHand W new.pool k.local (command_of s part)) (sym one.script) (hand_kept W old.pool new.pool l k kept _ hand h.1))
-    stage_kept kept same hand quiet b (book.Forking left) h = absurd (some_begun _ _ quiet h.2.begun)
+    stage_kept kept same hand quiet b (book.Forking left) h = absurd (not_begun _ _ quiet h.2.begun)
 
     -- no colour changes, nor a row
     pub stood_quiet : (b : Book) → k.local.own.map.pages ≡ l.local.own.map.pages → b.colours ≡ part.book.colours → IsStood (rows_of new) (put_book id b st.books)
-    stood_quiet b pages colours = (stands.colours.0, subst (λ rows. Stands stands.colours.0 rows (put_book id b st.books)) (sym (one_rows_same W old new id l k one stands.places pages)) (stands_quiet stands.colours.0 (rows_of old) st.books id b stands.colours.1 in_books colours))
+    stood_quiet b pages colours = (stands.colours.0, subst (λ rows. Stands stands.colours.0 rows (put_book id b st.books)) (sym (one_rows_same W old new id l k one st stands pages)) (stands_quiet stands.colours.0 (rows_of old) st.books id b stands.colours.1 in_books colours))
 
     pub stood_line : (o : Own) (spends : Spends) (answer : Reply) → k.local.own.map.pages ≡ l.local.own.map.pages → CopiesNothing spends → answer ≢ reply.Ended → IsStood (rows_of new) (books_after id o spends answer st.books)
-    stood_line o spends answer pages none n = (stands.colours.0, subst (λ rows. Stands stands.colours.0 rows (books_after id o spends answer st.books)) (sym (one_rows_same W old new id l k one stands.places pages)) (stands_line stands.colours.0 (rows_of old) st.books id o spends answer stands.colours.1 in_books none n))
+    stood_line o spends answer pages none n = (stands.colours.0, subst (λ rows. Stands stands.colours.0 rows (books_after id o spends answer st.books)) (sym (one_rows_same W old new id l k one st stands pages)) (stands_line stands.colours.0 (rows_of old) st.books id o spends answer stands.colours.1 in_books none n))
 
     -- nothing but the book changes
     pub stands_quietly : IsKept W old.pool l.local new.pool k.local → k.guest ≡ l.guest → k.local.hand ≡ l.local.hand → part.guest.begun ≡ [] → shared_in W new.pool new.hv ≡ shared_in W old.pool old.hv → (b : Book) → b.spare ≡ is_some k.local.own.spare → b.colours ≡ part.book.colours
@@ -200,7 +191,3 @@ module _ {Pool Seat : Type 0} (W : World Pool Seat) (old : Machine Pool Seat) (s
         (subst (IsDomain W new id k) (sym turns.here) (domain_now n b dom same standing own spare (exposes_kept old.hv.heap.stock new.hv.heap.stock id l k (ap (λ xs. get_or xs id []) one.exposed) map was.exposes)
         (subst (λ v. IsAtStage W new id k (record part { own = n; book = b }) v) (sym at) (stage, hand))))
         (stood_line part.own spends r map none more)
-
--- one domain stands in a place
-pub same_live : {Pool Seat : Type 0} (l k : Live Pool Seat) → Domain l ≡ Domain k → l ≡ k
-same_live l k e = cc

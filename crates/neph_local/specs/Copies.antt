@@ -28,8 +28,8 @@ pub record IsChildStep {Pool Seat : Type 0} (W : World Pool Seat) (p : Pool)
   pub others : Spares W (both_names (W.names d.seat) (W.names c.seat)) p q
   pub counts : SameCounts W p q
 
--- The seat t in the pool q is the seat s of the pool p: it has the frames that it had, and the words
--- of those that it shares.
+-- The seat t in the pool q is the seat s of the pool p: it has the frames that it had, and the
+-- words of those that it shares.
 pub record KeepsFrames {Pool Seat : Type 0} (W : World Pool Seat) (p : Pool) (s : Seat) (q : Pool)
     (t : Seat) : Type 0 where
   pub fits : W.fits q t

@@ -4,6 +4,7 @@ use Rattle.std.specs.List.{sum_by}
 use Rattle.std.proofs.lemmas.List.Sums.{sum_by-drop_more}
 use Rattle.neph_model.specs.declared.frames.FrameCounts.{FrameCounts}
 use Rattle.neph_model.specs.Books.{State, counts}
+use Rattle.neph_model.specs.WellFormed.{IsWellFormed}
 use Rattle.neph_runs.specs.Orderly.{seat as part_at}
 use Rattle.neph_pool.specs.Names.{only_name}
 use Rattle.neph_pool.specs.World.{World}
@@ -14,8 +15,10 @@ use Rattle.neph_machine.specs.declared.machine.Machine.{Machine}
 use Rattle.neph_machine.specs.FrameUses.{tables_in, spares_in, aside_in, AreFrameUses}
 use Rattle.neph_machine.specs.Places.{place_at}
 use Rattle.neph_machine.specs.StandsFor.{IsPlace, StandsFor}
+use Rattle.neph_machine.specs.Reached.{state_after}
 use Rattle.neph_machine.specs.Surveyed.{IsSurveyed}
-use Rattle.neph_machine.proofs.Reached.{IsReached}
+use Rattle.neph_machine.specs.Turned.{IsRunning}
+use Rattle.neph_machine.proofs.Reached.{IsReached, reached}
 use Rattle.neph_machine.proofs.FrameUses.{frames_are}
 use Rattle.neph_turns.specs.Seats.{StandsIn}
 
@@ -34,27 +37,31 @@ counts_same : (c : FrameCounts) (total colours tables spares aside free : ℕ) �
     → record { total = total; colours = colours; tables = tables; spares = spares; aside = aside; free = free } ≡ c
 counts_same c total colours tables spares aside free a b d e f g = rw (a, b, d, e, f, g) refl
 
+-- the counts of what stands in the places are within the number of the frames
+pub record AreWithin {Pool Seat : Type 0} (W : World Pool Seat) (m : Machine Pool Seat) : Type 0 where
+  pub high : m.script.frames ≤ 16384
+  pub tables : sum_by (tables_in W m.pool) m.places.items ≤ m.script.frames
+  pub spares : sum_by spares_in m.places.items ≤ m.script.frames
+  pub aside : sum_by aside_in m.places.items + aside_count m.hv.heap.stock ≤ m.script.frames
+  pub free : length m.hv.heap.stock.free ≤ m.script.frames
+  pub all : sum_by (tables_in W m.pool) m.places.items + sum_by spares_in m.places.items + (sum_by aside_in m.places.items + aside_count m.hv.heap.stock) + length m.hv.heap.stock.free ≤ m.script.frames
+
+pub within : {Pool Seat : Type 0} (W : World Pool Seat) (m : Machine Pool Seat) → IsSurveyed W → IsWellFormed m.script → IsRunning W m → AreWithin W m
+within W m survey formed n =
+    let uses = frames_are W m (state_after m.script n.0) (reached m.script formed n.0) n.1 survey in
+    let frames = n.1.frames in record {
+      high = formed.frames_high;
+      tables = omega (arith, uses.total, uses.tables, uses.all, frames);
+      spares = omega (arith, uses.total, uses.spares, uses.all, frames);
+      aside = omega (arith, uses.total, uses.aside, uses.all, frames);
+      free = omega (arith, uses.total, uses.free, uses.all, frames);
+      all = omega (arith, uses.total, uses.tables, uses.spares, uses.aside, uses.free, uses.all, frames);
+    }
+
 module _ {Pool Seat : Type 0} (W : World Pool Seat) (m : Machine Pool Seat) (st : State)
     (reached : IsReached m.script st) (stands : StandsFor W m st) (survey : IsSurveyed W) where
   uses : AreFrameUses W m (counts m.script st)
   uses = frames_are W m st reached stands survey
-
-  -- the counts are within the number of the frames
-  pub record AreWithin : Type 0 where
-    pub tables : sum_by (tables_in W m.pool) m.places.items ≤ m.script.frames
-    pub spares : sum_by spares_in m.places.items ≤ m.script.frames
-    pub aside : sum_by aside_in m.places.items + aside_count m.hv.heap.stock ≤ m.script.frames
-    pub free : length m.hv.heap.stock.free ≤ m.script.frames
-    pub all : sum_by (tables_in W m.pool) m.places.items + sum_by spares_in m.places.items + (sum_by aside_in m.places.items + aside_count m.hv.heap.stock) + length m.hv.heap.stock.free ≤ m.script.frames
-
-  pub within : AreWithin
-  within = record {
-    tables = omega (arith, uses.total, uses.tables, uses.all, stands.frames);
-    spares = omega (arith, uses.total, uses.spares, uses.all, stands.frames);
-    aside = omega (arith, uses.total, uses.aside, uses.all, stands.frames);
-    free = omega (arith, uses.total, uses.free, uses.all, stands.frames);
-    all = omega (arith, uses.total, uses.tables, uses.spares, uses.aside, uses.free, uses.all, stands.frames);
-  }
 
   -- what is counted of the places, with what is left of all frames, are the definitions' counts
   pub counts_are : (tables spares aside free : ℕ) → tables ≡ sum_by (tables_in W m.pool) m.places.items → spares ≡ sum_by spares_in m.places.items

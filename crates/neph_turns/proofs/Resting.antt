@@ -57,9 +57,6 @@ pub place_is : {Pool Seat : Type 0} (places : List (Place Pool Seat)) (id at : �
     → place_at id places ≡ Domain l
 place_is places id at x l e lt is d = get_same places id Empty x lt ∙ ap (λ k. get_or places k x) (sym e) ∙ sym is ∙ d
 
-pub same_live : {Pool Seat : Type 0} (l k : Live Pool Seat) → Domain l ≡ Domain k → l ≡ k
-same_live l k e = cc
-
 -- a domain that has begun no clone goes on where it isn't paused
 pub none_going : (paused : Bool) (s : Stage) → s ≢ guest.Forking → paused ≡ true → unless_paused paused s ≡ None
 none_going paused guest.Forking far e = absurd (far refl)

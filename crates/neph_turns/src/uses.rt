@@ -1,5 +1,5 @@
 // What the frames of a machine are used for.
-ghost use Rattle.std.specs.Prelude.{◌≡◌, ◌<◌, ◌^◌, ℕ, List, sum_by};
+ghost use Rattle.std.specs.Prelude.{◌≡◌, ◌+◌, ◌-◌, ◌<◌, ◌≤◌, ◌^◌, ℕ, List, sum_by};
 ghost use Rattle.neph_model.specs.Books.{counts};
 ghost use Rattle.neph_model.specs.WellFormed.{IsWellFormed};
 ghost use Rattle.neph_pool.specs.World.{World, Spares};
@@ -30,10 +30,25 @@ pub fn counts<P: FramePool>(machine: &mut Machine<P>) -> FrameCounts
 {
     let total = machine.script.frames;
     let free = machine.hv.heap.free_len() as u32;
-    let put_aside = machine.hv.heap.aside_len(&machine.pool) as u32;
-    let aside = fork_count(&machine.places) + put_aside;
+    let put_aside = machine.hv.heap.aside_len(&machine.pool);
+    let aside = (fork_count(&machine.places) + put_aside) as u32;
     let spares = spare_count(&machine.places);
     let tables = table_count(&mut machine.pool, &mut machine.places);
+    counts_of(total, tables, spares, aside, free)
+}
+
+// The counts where so many frames are used otherwise, and the others hold pages.
+fn counts_of(total: u32, tables: u32, spares: u32, aside: u32, free: u32) -> FrameCounts
+    requires { tables + spares + aside + free ≤ total }
+    ensures { result ≡ record {
+      total = total;
+      colours = total - (tables + spares + aside + free);
+      tables = tables;
+      spares = spares;
+      aside = aside;
+      free = free;
+    } }
+{
     FrameCounts {
         total,
         colours: total - (tables + spares + aside + free),
@@ -49,11 +64,7 @@ fn spare_count<P: FramePool>(places: &[Place<P>]) -> u32
     requires { sum_by spares_in places.now < 2 ^ 32 }
     ensures { result ≡ sum_by spares_in places.now }
 {
-    let mut count = 0;
-    for place in places {
-        count += spares_of(place);
-    }
-    count
+    places.iter().map(|place| spares_of(place)).sum()
 }
 
 fn spares_of<P: FramePool>(place: &Place<P>) -> u32
@@ -66,23 +77,18 @@ fn spares_of<P: FramePool>(place: &Place<P>) -> u32
 }
 
 // How many frames the forks in hand have put aside.
-fn fork_count<P: FramePool>(places: &[Place<P>]) -> u32
+fn fork_count<P: FramePool>(places: &[Place<P>]) -> usize
     requires { sum_by aside_in places.now < 2 ^ 32 }
     ensures { result ≡ sum_by aside_in places.now }
 {
-    let mut count = 0;
-    for place in places {
-        count += aside_of(place);
-    }
-    count
+    places.iter().map(|place| aside_of(place)).sum()
 }
 
-fn aside_of<P: FramePool>(place: &Place<P>) -> u32
-    requires { aside_in place.now < 2 ^ 32 }
+fn aside_of<P: FramePool>(place: &Place<P>) -> usize
     ensures { result ≡ aside_in place.now }
 {
     match place {
-        Place::Flight(flight) => flight.fork.frames.len() as u32,
+        Place::Flight(flight) => flight.fork.frames.len(),
         _ => 0,
     }
 }

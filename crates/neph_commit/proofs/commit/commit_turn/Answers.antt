@@ -22,7 +22,7 @@ guest_behind-live-requires g c =
     c.take_flight-flight.ensures.here in
     record {
       room = line_small g.P.FramePool.world old (state_after old.script n.0)
-          (reached old.script c.requires.formed n.0) n.1 c.args.id c.args.child l f both;
+          (reached old.script c.requires.formed n.0) n.1 c.args.id c.args.child l f both.0;
     }
 
 pub returns-in-Ok : goal.returns-in-Ok
@@ -46,7 +46,7 @@ returns-in-Ok g c before stands =
       places = c.put_live-in-Ok.new.places;
     } in
     commit_took g.P.FramePool.world old (state_after old.script before)
-    (reached old.script c.requires.formed before) stands id child l f both new d k c.in-Ok.reply
+    (reached old.script c.requires.formed before) stands id child l f both.0 new d k c.in-Ok.reply
     (record {
       places = filled id child Empty
           (Domain (record { guest = c.guest_behind-live.result; local = d }))
@@ -75,7 +75,7 @@ returns-in-Ok g c before stands =
       names = e.names;
       others = e.others;
       shares = e.shares;
-    }) c.requires.surveyed
+    }) c.requires.surveyed both.1
 
 pub returns-in-Err : goal.returns-in-Err
 returns-in-Err g c before stands =
@@ -98,7 +98,7 @@ returns-in-Err g c before stands =
     } in
     let k : Live _ _ = record { guest = l.guest; local = c.commit.new.d } in
     commit_lacked g.P.FramePool.world old (state_after old.script before)
-    (reached old.script c.requires.formed before) stands id child l f both new k fork
+    (reached old.script c.requires.formed before) stands id child l f both.0 new k fork
     (record {
       places = filled id child Empty (Domain k) (Domain k) (InFlight (flight_of id fork))
           (InFlight (flight_of id fork))

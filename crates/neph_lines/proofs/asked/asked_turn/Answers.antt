@@ -1,5 +1,4 @@
-use Rattle.std.proofs.Common.{◌≡◌, ℕ, [], set, refl, sym, ap, subst, ◌∙◌, arith}
-use Rattle.std.proofs.lemmas.List.{set-set}
+use Rattle.std.proofs.Common.{◌≡◌, ℕ, [], refl, sym, ap, subst, ◌∙◌, arith}
 use Rattle.neph_model.specs.declared.told.Told.{Told}
 use Rattle.neph_model.specs.Books.{free}
 use Rattle.neph_model.specs.Lent.{Lent, lent}
@@ -13,7 +12,7 @@ use Rattle.neph_machine.specs.Reached.{state_after}
 use Rattle.neph_machine.proofs.Reached.{reached}
 use Rattle.neph_machine.proofs.FrameLaws.{free_is}
 use Rattle.neph_lines.specs.Lines.{told_of}
-use Rattle.neph_lines.proofs.Sparing.{was}
+use Rattle.neph_lines.proofs.Sparing.{was, put_back}
 use Rattle.neph_lines.proofs.ReadyLines.{fits, room}
 use Rattle.neph_lines.proofs.Asking.{lent_met}
 use Rattle.neph_lines.proofs.Called.{met_hv, may_ask, took_called}
@@ -82,5 +81,5 @@ returns g c before stands asked =
     subst (λ (t : Told). shared_line (shared_in W c.met_by-met.new.pool old.hv) id (lent o its) t its ≡ locked (shared_in W new.pool new.hv) c.call-reply.result) told
     (subst (λ (v : Lent). shared_line (shared_in W c.met_by-met.new.pool old.hv) id v c.told_to-told.result its ≡ locked (shared_in W new.pool new.hv) c.call-reply.result) (sym (lent_met o its c.requires.no_clone c.met_by-met.result (e.met o is.own.own))) f.row) in
     took_called W old st r stands id l here its c.requires.here c.met_by-met.new.pool c.met_by-met.new.d e.stands e.same e.moves new refl f.moves f.hv f.stock k
-    (c.put_live.ensures ∙ ap (λ xs. set xs id (Domain k)) c.take_live-live.ensures.out ∙ set-set old.places.items id Empty (Domain k)) c.go_on.ensures.local c.requires.no_exit c.requires.no_clone (told_of (free old.script st) its) c.call-reply.result
+    (put_back _ _ _ id (Domain k) Empty c.take_live-live.ensures.out c.put_live.ensures) c.go_on.ensures.local c.requires.no_exit c.requires.no_clone (told_of (free old.script st) its) c.call-reply.result
     (f.shares ∙ e.counts.shares) asked.alone row c.go_on.ensures.half c.go_on.ensures.stage c.go_on.ensures.dom

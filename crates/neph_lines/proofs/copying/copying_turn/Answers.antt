@@ -1,5 +1,4 @@
-use Rattle.std.proofs.Common.{◌≡◌, ℕ, set, Some, refl, sym, ap, subst, ◌∙◌}
-use Rattle.std.proofs.lemmas.List.{set-set}
+use Rattle.std.proofs.Common.{◌≡◌, ℕ, Some, refl, sym, ap, subst, ◌∙◌}
 use Rattle.neph_base.specs.declared.command.Command.{Command}
 use Rattle.neph_model.specs.declared.own.Own.{Own}
 use Rattle.neph_model.specs.declared.told.Told.TheVariants.{Enough}
@@ -17,7 +16,8 @@ use Rattle.neph_machine.specs.Places.{place_at}
 use Rattle.neph_machine.specs.Reached.{state_after}
 use Rattle.neph_machine.specs.Stages.{IsAt}
 use Rattle.neph_machine.proofs.Reached.{reached, fits_page}
-use Rattle.neph_lines.proofs.Sparing.{was, same_live}
+use Rattle.neph_machine.proofs.Carrying.{same_live}
+use Rattle.neph_lines.proofs.Sparing.{was, put_back}
 use Rattle.neph_lines.proofs.InHand.{copying_stage}
 use Rattle.neph_lines.proofs.CopyTurns.{command_is, short_line, copying_did, waits_stands, waits_bare, waits_took, waiting_needs}
 use Rattle.neph_lines.proofs.copying.copying_turn.Goals as goal
@@ -59,7 +59,7 @@ spare_turn-requires-clause-needs g c =
     let e = c.in-LacksFrame.ensures in (
       n.0,
       waits_stands W old st r n.1 c.args.id l here c.requires.surveyed at c.requires.runs (record { script = old.script; pool = c.copy_turn-answer.new.pool; hv = old.hv; places = c.put_live.new.places }) refl refl k
-          (c.put_live.ensures ∙ ap (λ xs. set xs c.args.id (Domain k)) c.take_live-live.ensures.out ∙ set-set old.places.items c.args.id Empty (Domain k)) e.moves e.stands (e.guest refl) e.place,
+          (put_back _ _ _ c.args.id (Domain k) Empty c.take_live-live.ensures.out c.put_live.ensures) e.moves e.stands (e.guest refl) e.place,
       waiting_needs W old st r n.1 c.args.id l here c.requires.surveyed at c.requires.runs,
     )
 
@@ -76,7 +76,7 @@ spare_turn-requires-clause-here g c =
     let at = stage_of old c.args.id l c.requires.here here in
     let e = c.in-LacksFrame.ensures in
     waits_bare W old st r n.1 c.args.id l here c.requires.surveyed at c.requires.runs (record { script = old.script; pool = c.copy_turn-answer.new.pool; hv = old.hv; places = c.put_live.new.places }) k
-    (c.put_live.ensures ∙ ap (λ xs. set xs c.args.id (Domain k)) c.take_live-live.ensures.out ∙ set-set old.places.items c.args.id Empty (Domain k)) (e.guest refl) e.place
+    (put_back _ _ _ c.args.id (Domain k) Empty c.take_live-live.ensures.out c.put_live.ensures) (e.guest refl) e.place
 
 pub returns-in-Did : goal.returns-in-Did
 returns-in-Did g c before stands =
@@ -92,7 +92,7 @@ returns-in-Did g c before stands =
     let its = command_is W old st r stands c.args.id l here c.requires.surveyed c.command_at-command.result c.program-program.result c.command_at-command.ensures c.program-program.ensures.value in
     let e = c.in-Did.ensures in
     copying_did W old st r stands c.args.id l here c.requires.surveyed at c.requires.runs (record { script = old.script; pool = c.copy_turn-answer.new.pool; hv = old.hv; places = c.put_live.new.places }) refl refl k
-    (c.put_live.ensures ∙ ap (λ xs. set xs c.args.id (Domain k)) c.take_live-live.ensures.out ∙ set-set old.places.items c.args.id Empty (Domain k)) e.moves e.dom e.id e.stands c.in-Did.reply e.stage e.hand e.shares e.place
+    (put_back _ _ _ c.args.id (Domain k) Empty c.take_live-live.ensures.out c.put_live.ensures) e.moves e.dom e.id e.stands c.in-Did.reply e.stage e.hand e.shares e.place
     (subst (λ (v : Command). (n : Own) × (local_step old.script (program_of (part_at st c.args.id).life) (part_at st c.args.id).own Enough v ≡ Some (n, c.in-Did.reply)) × IsOwnHalf W c.copy_turn-answer.new.pool k n) its (e.turn old.script (program_of (part_at st c.args.id).life) (part_at st c.args.id).own is.own))
 
 pub returns-in-LacksFrame : goal.returns-in-LacksFrame
@@ -107,6 +107,6 @@ returns-in-LacksFrame g c before stands =
     let at = stage_of old c.args.id l c.requires.here here in
     let e = c.in-LacksFrame.ensures in
     let mid : Machine _ _ = record { script = old.script; pool = c.copy_turn-answer.new.pool; hv = old.hv; places = c.put_live.new.places } in
-    let spots = c.put_live.ensures ∙ ap (λ xs. set xs c.args.id (Domain k)) c.take_live-live.ensures.out ∙ set-set old.places.items c.args.id Empty (Domain k) in
+    let spots = put_back _ _ _ c.args.id (Domain k) Empty c.take_live-live.ensures.out c.put_live.ensures in
     waits_took W old st r stands c.args.id l here c.requires.surveyed at c.requires.runs mid c.spare_turn.new.machine k c.spare_turn.result refl e.shares e.place
     (c.spare_turn.ensures before (waits_stands W old st r stands c.args.id l here c.requires.surveyed at c.requires.runs mid refl refl k spots e.moves e.stands (e.guest refl) e.place) (waiting_needs W old st r stands c.args.id l here c.requires.surveyed at c.requires.runs))

@@ -1,7 +1,6 @@
-use Rattle.std.proofs.Common.{◌≡◌, ◌<◌, ℕ, Bool, false, [], set, Some, None, refl, sym, ap, ◌∙◌, arith}
+use Rattle.std.proofs.Common.{◌≡◌, ◌<◌, ℕ, Bool, false, [], Some, None, refl, sym, ap, ◌∙◌, arith}
 use Rattle.std.specs.Prelude.{is_some}
 use Rattle.std.specs.declared.option.Option.{Option}
-use Rattle.std.proofs.lemmas.List.{set-set}
 use Rattle.neph_model.specs.Books.{State}
 use Rattle.neph_runs.specs.Orderly.{seat as part_at}
 use Rattle.neph_pool.specs.World.{World}
@@ -14,7 +13,8 @@ use Rattle.neph_machine.specs.StandsFor.{StandsFor}
 use Rattle.neph_lines.specs.Lines.{HasNoSpare}
 use Rattle.neph_machine.proofs.Reached.{IsReached, reached, line_short}
 use Rattle.neph_machine.proofs.FrameLaws.{free_is}
-use Rattle.neph_lines.proofs.Sparing.{was, none_begun, same_live}
+use Rattle.neph_machine.proofs.Carrying.{same_live}
+use Rattle.neph_lines.proofs.Sparing.{was, none_begun, put_back}
 use Rattle.neph_lines.proofs.NoFrame.{spare_taken, line_refused}
 use Rattle.neph_lines.proofs.copying.spare_turn.Goals as goal
 
@@ -55,7 +55,7 @@ returns-then-took g c before stands needs =
       others = e.others;
       shares = e.shares;
     })
-    (c.put_live.ensures ∙ ap (λ xs. set xs id (Domain (record l { local = c.spare-took.new.d }))) c.take_live-live.ensures.out ∙ set-set old.places.items id Empty (Domain (record l { local = c.spare-took.new.d })))
+    (put_back _ _ _ id (Domain (record l { local = c.spare-took.new.d })) Empty c.take_live-live.ensures.out c.put_live.ensures)
     (sym e.took ∙ c.if-took.true) e.free
 
 pub refuse-reply-requires : goal.refuse-reply-requires
@@ -96,5 +96,5 @@ returns g c before stands needs =
       shares = e.shares;
     })
     k c.refuse-reply.result needs
-    (c.put_live-2.ensures ∙ ap (λ xs. set xs id (Domain k)) c.take_live-live.ensures.out ∙ set-set old.places.items id Empty (Domain k))
+    (put_back _ _ _ id (Domain k) Empty c.take_live-live.ensures.out c.put_live-2.ensures)
     (no_spare_is c.spare-took.new.d.own.spare c.spare-took.result e.took c.if-took.false) (e.none c.if-took.false) f.half f.local f.stage f.dom (no_spare W old st r stands id l here c.requires.here)

@@ -1,7 +1,8 @@
 use Rattle.std.proofs.Common.{sym, ap, ◌∙◌, arith}
 use Rattle.neph_model.specs.Programs.{command_at}
 use Rattle.neph_guest.specs.declared.live.Live.{Live}
-use Rattle.neph_turns.proofs.Resting.{place_is, same_live}
+use Rattle.neph_machine.proofs.Carrying.{same_live}
+use Rattle.neph_turns.proofs.Resting.{place_is}
 use Rattle.neph_turns.proofs.dispatch.command_at.Goals as goal
 
 pub returns : goal.returns

@@ -6,7 +6,7 @@ use Rattle.neph_model.specs.Start.{places, start_life}
 use Rattle.neph_rows.specs.Records.{Records}
 use Rattle.neph_rows.specs.Sound.{IsSoundRecords}
 use Rattle.neph_flat.proofs.StartSound.{start_records}
-use Rattle.neph_boot.proofs.registry.start_registry.Goals as goal
+use Rattle.neph_flat.proofs.start.start_registry.Goals as goal
 
 pub new-requires : goal.new-requires
 new-requires c =
