@@ -1,6 +1,7 @@
 -- Where the path above is there, all above are.
-use Rattle.std.proofs.Common.{◌≡◌, inl, inr, ℕ, zero, suc, ◌+◌, ◌-◌, ◌<◌, ◌≤◌, Bool, true, false, List, [], ◌∷◌, ◌++◌, length, take, drop, get_or, refl, sym, ap, ◌∙◌, arith, length-append, length-drop}
+use Rattle.std.proofs.Common.{◌≡◌, inl, inr, ℕ, zero, suc, ◌+◌, ◌-◌, ◌<◌, ◌≤◌, Bool, true, false, List, [], ◌∷◌, ◌++◌, length, take, drop, get_or, Option, Some, None, Bor, refl, sym, ap, ◌∙◌, arith, length-append, length-drop}
 use Rattle.std.specs.Prelude.{not, nat_lt, ◌==◌}
+use Rattle.std.specs.Option.{ForSome, IsSomeAnd}
 use Rattle.std.specs.List.{list_all}
 use Rattle.std.specs.FinMap.{contains_key}
 use Rattle.std.proofs.lemmas.Bool.{eqb-true, ltb-true, ltb-false}
@@ -8,7 +9,7 @@ use Rattle.std.proofs.lemmas.List.{get_or-drop}
 use Rattle.neph_base.specs.Path.{slash, is_path}
 use Rattle.neph_tree.specs.Places.{root, is_within, cuts, ancestors, IsLastSlash}
 use Rattle.neph_tree.specs.Nodes.{Nodes, IsTree, with_each_missing}
-use Rattle.neph_tree.proofs.Within.{IsIn, IsIn-back, cuts-back, and_left, and_right, within_root, within_front, ancestor_within}
+use Rattle.neph_tree.proofs.Within.{IsIn, IsIn-back, cuts-back, and_left, and_right, within_root, within_front, path_front, ancestor_within}
 use Rattle.neph_tree.proofs.TreeLemmas.{each_none}
 
 all_at : (p : ℕ → Bool) (xs : List ℕ) (i : ℕ) → list_all p xs ≡ true → i < length xs → p (get_or xs i 0) ≡ true
@@ -62,3 +63,10 @@ above_within (b ∷ c ∷ text) q end is last some h =
 pub above_there : (m : Nodes) (path : List ℕ) (end : ℕ) → IsTree m → is_path path ≡ true → IsLastSlash path end → 0 < end → contains_key m (take end path) ≡ true → with_each_missing m (ancestors path) ≡ m
 above_there m path end tree is last some there =
     each_none m (ancestors path) (λ q one. tree.closed q (take end path) (ancestor_within path q is one).0 (above_within path q end is last some one) there)
+
+-- or where a node that is there lies within it
+pub near_there : (m : Nodes) (path : List ℕ) (end : ℕ) (near : Option (Bor (List ℕ))) → IsTree m → is_path path ≡ true → IsLastSlash path end → 0 < end → ForSome near (λ n. contains_key m n.now ≡ true) → IsSomeAnd near (λ n. is_within (take end path) n.now ≡ true)
+    → with_each_missing m (ancestors path) ≡ m
+near_there m path end None tree is last some has within = absurd within
+near_there m path end (Some n) tree is last some has within =
+    above_there m path end tree is last some (tree.closed (take end path) n.now (path_front path end is some last.inside last.there) within (has n refl))

@@ -7,8 +7,7 @@ use Rattle.std.specs.FinMap.{empty, get-empty, len-empty, get, contains_key, ins
 use Rattle.std.specs.FinMap.Entries.{where_key}
 use Rattle.neph_tree.specs.Places.{is_within}
 use Rattle.neph_tree.specs.Nodes.{Nodes, subtree, without}
-use Rattle.neph_tree.proofs.EntryLemmas.{order, same_nodes, get-where, entries-retain_keys}
-use Rattle.neph_tree.proofs.GrowthLemmas.{tied_same}
+use Rattle.neph_tree.proofs.EntryLemmas.{order, same_nodes, get-where, entries-retain_keys, tied_same}
 use Rattle.neph_tree.proofs.Within.{within_trans}
 use Rattle.neph_tree.proofs.HomeLemmas.{within_either}
 use Rattle.neph_tree.proofs.TreeLemmas.{count_there}

@@ -9,14 +9,13 @@ use Rattle.std.specs.List.Sorted.{IsStrictlySortedBy}
 use Rattle.std.specs.Option.{option_map}
 use Rattle.std.specs.Map.{lookup, keys_of, remove_entry}
 use Rattle.std.specs.BTreeMap.{is_at}
-use Rattle.std.specs.FinMap.{get, from_entries, find, get-from_entries}
+use Rattle.std.specs.FinMap.{get, find, get-from_entries}
 use Rattle.std.specs.FinMap.Entries.{where_key, find-where_key}
 use Rattle.neph_base.specs.Path.{slash}
 use Rattle.neph_tree.specs.Places.{behind, is_within}
 use Rattle.neph_tree.specs.Nodes.{without}
 use Rattle.neph_tree.specs.Entries.{shown, nodes_in, first_key, first_between}
-use Rattle.neph_tree.proofs.EntryLemmas.{order, same_nodes, get-shown, get-where}
-use Rattle.neph_tree.proofs.GrowthLemmas.{tied_same}
+use Rattle.neph_tree.proofs.EntryLemmas.{order, same_nodes, get-shown, get-where, tied_same}
 use Rattle.neph_tree.proofs.RunLemmas.{is_between_bytes, between_begins, within_is}
 use Rattle.neph_tree.proofs.Within.{either, within_same, front_behind, bytes_same}
 

@@ -8,7 +8,7 @@ use Rattle.std.specs.List.{filter, AllByRecursion}
 use Rattle.std.specs.List.Sorted.{IsStrictlySortedBy}
 use Rattle.std.specs.Option.{option_map}
 use Rattle.std.specs.Map.Iter.{deref_pair}
-use Rattle.std.specs.Map.{lookup, keys_of}
+use Rattle.std.specs.Map.{lookup, keys_of, set_value}
 use Rattle.std.specs.BTreeMap.{is_at, insert_entry}
 use Rattle.std.specs.FinMap.{FinMap, get, contains_key, get-entries, entries_sorted, empty, len, len-entries, len-empty, insert, entries, retain_keys, from_entries, find, put, is_sorted, get-from_entries, get-insert, get-retain_keys, entries-insert, same_map, slice_cmp-IsAntisymmetric, nat_cmp-IsAntisymmetric}
 use Rattle.std.specs.FinMap.Entries.{below_all, where_key, by_order, find-put, find-where_key, is_sorted-where_key}
@@ -23,6 +23,14 @@ same_nodes m n is = same_map nat_list_cmp_total (slice_cmp-IsAntisymmetric nat_c
 some_mapped : {X Y : Type 0} (f : X → Y) (o : Option X) → is_some (option_map f o) ≡ is_some o
 some_mapped f None = refl
 some_mapped f (Some x) = refl
+
+equal_at : (o : Ordering) → is_eq o ≡ true → o ≡ Equal
+equal_at Less e = absurd cc
+equal_at Equal e = refl
+equal_at Greater e = absurd cc
+
+pub tied_same : (q k : List ℕ) → is_eq (order q k) ≡ true → q ≡ k
+tied_same q k e = slice_cmp-IsAntisymmetric nat_cmp-IsAntisymmetric q k (equal_at _ e)
 
 module _ {A : Type 0} where
   pub find-shown : (q : List ℕ) (es : List (Vec ℕ A × Vec ℕ A)) → find order q (shown es) ≡ option_map (λ v. v.items) (lookup (is_at (λ k. order q k.items)) es)
@@ -49,6 +57,32 @@ module _ {A : Type 0} where
   insert-shown es fs k v e = same_nodes _ _ (λ q.
       get-from_entries nat_list_cmp_total (shown fs) q ∙ ap (find order q) (ap shown e ∙ shown-insert es k v) ∙ find-put order nat_list_cmp_total q k.items v.items (shown es)
       ∙ sym (get-insert nat_list_cmp_total (from_entries (shown es)) k.items v.items q ∙ ap (cond (eq_by_cmp order q k.items) (Some v.items)) (get-from_entries nat_list_cmp_total (shown es) q)))
+
+  -- a new value at a key that is there
+  find-set : (r q : List ℕ) (es : List (Vec ℕ A × Vec ℕ A)) (w : Vec ℕ A) → is_some (lookup (is_at (λ k. order q k.items)) es) ≡ true
+      → find order r (shown (set_value (is_at (λ k. order q k.items)) es w)) ≡ cond (eq_by_cmp order r q) (Some w.items) (find order r (shown es))
+  find-set r q [] w there = absurd cc
+  find-set r q (e ∷ es) w there =
+      elim (is_eq (order q e.0.items)) as (λ b. is_eq (order q e.0.items) ≡ b → is_some (cond b (Some e.1) (lookup (is_at (λ k. order q k.items)) es)) ≡ true
+      → find order r (shown (cond b ((e.0, w) ∷ es) (e ∷ set_value (is_at (λ k. order q k.items)) es w))) ≡ cond (eq_by_cmp order r q) (Some w.items) (cond (is_eq (order r e.0.items)) (Some e.1.items) (find order r (shown es)))) [
+        | true ↦ λ t h. let same : q ≡ e.0.items = tied_same q e.0.items t in ap (λ b. cond b (Some w.items) (find order r (shown es))) (ap (λ k. is_eq (order r k)) (sym same)) ∙ over (is_eq (order r q)) ∙ ap (λ k. cond (is_eq (order r q)) (Some w.items) (cond (is_eq (order r k)) (Some e.1.items) (find order r (shown es)))) same
+        | false ↦ λ t h. ap (λ o. cond (is_eq (order r e.0.items)) (Some e.1.items) o) (find-set r q es w h) ∙ swap (is_eq (order r e.0.items)) (is_eq (order r q)) refl refl t
+      ] refl there
+    where
+      over : (b : Bool) → cond b (Some w.items) (find order r (shown es)) ≡ cond b (Some w.items) (cond b (Some e.1.items) (find order r (shown es)))
+      over true = refl
+      over false = refl
+
+      swap : (b d : Bool) → is_eq (order r e.0.items) ≡ b → is_eq (order r q) ≡ d → is_eq (order q e.0.items) ≡ false
+          → cond b (Some e.1.items) (cond d (Some w.items) (find order r (shown es))) ≡ cond d (Some w.items) (cond b (Some e.1.items) (find order r (shown es)))
+      swap true true x y t = absurd (let same : r ≡ q = tied_same r q y in let bad : false ≡ true = sym t ∙ ap (λ k. is_eq (order k e.0.items)) (sym same) ∙ x in cc)
+      swap true false x y t = refl
+      swap false d x y t = refl
+
+  pub set-shown : (es fs : List (Vec ℕ A × Vec ℕ A)) (q : List ℕ) (w : Vec ℕ A) → fs ≡ set_value (is_at (λ k. order q k.items)) es w → is_some (lookup (is_at (λ k. order q k.items)) es) ≡ true → from_entries {R = order} (shown fs) ≡ insert (from_entries (shown es)) q w.items
+  set-shown es fs q w e there = same_nodes _ _ (λ r.
+      get-from_entries nat_list_cmp_total (shown fs) r ∙ ap (λ xs. find order r (shown xs)) e ∙ find-set r q es w there
+      ∙ sym (get-insert nat_list_cmp_total (from_entries (shown es)) q w.items r ∙ ap (cond (eq_by_cmp order r q) (Some w.items)) (get-from_entries nat_list_cmp_total (shown es) r)))
 
   pub shown-filter : (p : List ℕ → Bool) (es : List (Vec ℕ A × Vec ℕ A)) → shown (filter (λ e. p e.0.items) es) ≡ where_key order p (shown es)
   shown-filter p [] = refl

@@ -1,26 +1,18 @@
 -- A tree that grows by the nodes above a path.
-use Rattle.std.proofs.Common.{◌≡◌, ℕ, suc, ◌+◌, ◌-◌, ◌<◌, ◌≤◌, Bool, true, false, cond, List, [], ◌∷◌, ◌++◌, length, take, drop, map, get_or, Option, Some, None, refl, sym, ap, ◌∙◌, subst, arith, Ordering, Less, Equal, Greater}
-use Rattle.std.specs.Prelude.{not, ◌==◌}
-use Rattle.std.specs.Ordering.{is_eq, eq_by_cmp}
+use Rattle.std.proofs.Common.{◌≡◌, ℕ, suc, ◌+◌, ◌-◌, ◌<◌, ◌≤◌, Bool, true, false, cond, List, [], ◌∷◌, ◌++◌, length, take, drop, map, get_or, Option, Some, None, refl, sym, ap, ◌∙◌, subst, arith}
+use Rattle.std.specs.Prelude.{not, ◌==◌, Result, Ok, Err, OnOk, OnErr}
+use Rattle.std.specs.Ordering.{eq_by_cmp}
 use Rattle.std.specs.Cmp.{eq_by_cmp_equiv}
 use Rattle.std.specs.Cmp.Lexicographic.{nat_list_cmp_total}
-use Rattle.std.specs.FinMap.{get, contains_key, insert, get-insert, slice_cmp-IsAntisymmetric, nat_cmp-IsAntisymmetric}
+use Rattle.std.specs.FinMap.{get, contains_key, insert, get-insert}
 use Rattle.std.proofs.lemmas.Bool.{eqb-true, eq-eqb}
 use Rattle.std.proofs.lemmas.List.{length-take-le, take_all, take_more, map-append, append-nil}
 use Rattle.neph_base.specs.Path.{slash, is_path}
 use Rattle.neph_tree.specs.Places.{root, is_within, cuts}
 use Rattle.neph_tree.specs.Nodes.{Nodes, IsTree, with_missing, with_each_missing, without}
-use Rattle.neph_tree.specs.Growth.{first_made, GrowsWithin, IsGrown, IsMade, without_front}
-use Rattle.neph_tree.proofs.EntryLemmas.{order, same_nodes, get-where, none_there}
+use Rattle.neph_tree.specs.Growth.{first_made, with_added, GrowsWithin, IsGrown, without_front}
+use Rattle.neph_tree.proofs.EntryLemmas.{order, same_nodes, tied_same, get-where, none_there}
 use Rattle.neph_tree.proofs.Within.{within_self, within_same, within_front, within_root, path_front, cuts-push, and_left}
-
-tied : (o : Ordering) → is_eq o ≡ true → o ≡ Equal
-tied Less e = absurd cc
-tied Equal e = refl
-tied Greater e = absurd cc
-
-pub tied_same : (q k : List ℕ) → eq_by_cmp order q k ≡ true → q ≡ k
-tied_same q k e = slice_cmp-IsAntisymmetric nat_cmp-IsAntisymmetric q k (tied _ e)
 
 pub insert_there : (m : Nodes) (k v : List ℕ) → get (insert m k v) k ≡ Some v
 insert_there m k v = get-insert nat_list_cmp_total m k v k ∙ ap (λ b. cond b (Some v) (get m k)) ((eq_by_cmp_equiv nat_list_cmp_total).refl k)
@@ -31,6 +23,13 @@ insert_elsewhere m k v q apart = get-insert nat_list_cmp_total m k v q ∙ by (e
   by true e = absurd (apart (tied_same q k e))
   by false e = refl
 
+-- a value that is set back
+pub insert_back : (m : Nodes) (k v x : List ℕ) → get m k ≡ Some x → insert (insert m k v) k x ≡ m
+insert_back m k v x got = same_nodes _ _ (λ q. get-insert nat_list_cmp_total (insert m k v) k x q ∙ by q (eq_by_cmp order q k) refl) where
+  by : (q : List ℕ) (b : Bool) → eq_by_cmp order q k ≡ b → cond b (Some x) (get (insert m k v) q) ≡ get m q
+  by q true e = sym (ap (λ p. get m p) (tied_same q k e) ∙ got)
+  by q false e = get-insert nat_list_cmp_total m k v q ∙ ap (λ b. cond b (Some v) (get m q)) e
+
 outside : (top path q : List ℕ) → is_within top path ≡ true → is_within top q ≡ false → q ≡ path → ⊥
 outside top path q within out same = absurd (cc)
 
@@ -38,26 +37,26 @@ pub grown_more : (old new : Nodes) (path : List ℕ) (top : Option ℕ) (m n : �
 grown_more old new path None m n le h = h
 grown_more old new path (Some end) m n le h = (h.0, omega (arith, le, h.1))
 
-pub grown_front : (old now : Nodes) (path : List ℕ) (top : Option ℕ) (end : ℕ) → end ≤ length path → is_path (take end path) ≡ true → ((i : ℕ) → end ≤ i → is_within (take end path) (take i path) ≡ true)
-    → IsGrown old now path top end → IsGrown old (with_missing now (take end path)) path (first_made now (take end path) top) end
-grown_front old now path None end inside is later h =
+pub grown_front : (old now : Nodes) (path v : List ℕ) (top : Option ℕ) (end : ℕ) → end ≤ length path → is_path (take end path) ≡ true → ((i : ℕ) → end ≤ i → is_within (take end path) (take i path) ≡ true)
+    → IsGrown old now path top end → IsGrown old (with_added now (take end path) v) path (first_made now (take end path) top) end
+grown_front old now path v None end inside is later h =
     let front = take end path in
     let long : length front ≡ end = length-take-le end path inside in
-    elim (contains_key now front) as (λ b. contains_key now front ≡ b → IsGrown old (cond b now (insert now front [])) path (cond b None (Some (length front))) end) [
+    elim (contains_key now front) as (λ b. contains_key now front ≡ b → IsGrown old (cond b now (insert now front v)) path (cond b None (Some (length front))) end) [
       | true ↦ λ e. h
       | false ↦ λ e.
-          let P : ℕ → Type 0 = λ n. GrowsWithin old (insert now front []) path n × (n ≤ end) in
+          let P : ℕ → Type 0 = λ n. GrowsWithin old (insert now front v) path n × (n ≤ end) in
           subst P (sym long) (
             record {
               front = is;
               missing = ap (λ m. contains_key m front) (sym h) ∙ e;
               later = later;
-              others = λ q out. insert_elsewhere now front [] q (outside front front q (within_self front) out) ∙ ap (λ m. get m q) h;
+              others = λ q out. insert_elsewhere now front v q (outside front front q (within_self front) out) ∙ ap (λ m. get m q) h;
             },
             omega arith,
           )
     ] refl
-grown_front old now path (Some first) end inside is later h =
+grown_front old now path v (Some first) end inside is later h =
     let front = take end path in
     let w = h.0 in
     let deep : is_within (take first path) front ≡ true = w.later end h.1 in (
@@ -65,42 +64,14 @@ grown_front old now path (Some first) end inside is later h =
         front = w.front;
         missing = w.missing;
         later = w.later;
-        others = λ q out. kept (contains_key now front) q (insert_elsewhere now front [] q (outside (take first path) front q deep out)) ∙ w.others q out;
+        others = λ q out. kept (contains_key now front) q (insert_elsewhere now front v q (outside (take first path) front q deep out)) ∙ w.others q out;
       },
       h.1,
     )
   where
-    kept : (b : Bool) (q : List ℕ) → get (insert now (take end path) []) q ≡ get now q → get (cond b now (insert now (take end path) [])) q ≡ get now q
+    kept : (b : Bool) (q : List ℕ) → get (insert now (take end path) v) q ≡ get now q → get (cond b now (insert now (take end path) v)) q ≡ get now q
     kept true q e = refl
     kept false q e = e
-
-pub grown_last : (old now : Nodes) (path value : List ℕ) (top : Option ℕ) → is_path path ≡ true → IsGrown old now path top (length path) → IsMade old (insert now path value) path (first_made now path top)
-grown_last old now path value None is h =
-    elim (contains_key now path) as (λ b. contains_key now path ≡ b → IsMade old (insert now path value) path (cond b None (Some (length path)))) [
-      | true ↦ λ e. ap (λ m. contains_key m path) (sym h) ∙ e
-      | false ↦ λ e.
-          let whole : take (length path) path ≡ path = take_all (length path) path (omega arith) in (
-            record {
-              front = ap (λ p. is_path p) whole ∙ is;
-              missing = ap (λ p. contains_key old p) whole ∙ ap (λ m. contains_key m path) (sym h) ∙ e;
-              later = λ i le. within_same _ _ (take_all i path le ∙ sym whole);
-              others = λ q out. insert_elsewhere now path value q (outside path path q (within_self path) (ap (λ p. is_within p q) (sym whole) ∙ out)) ∙ ap (λ m. get m q) h;
-            },
-            omega arith,
-          )
-    ] refl
-grown_last old now path value (Some first) is h =
-    let w = h.0 in
-    let whole : take (length path) path ≡ path = take_all (length path) path (omega arith) in
-    let deep : is_within (take first path) path ≡ true = ap (λ p. is_within (take first path) p) (sym whole) ∙ w.later (length path) h.1 in (
-      record {
-        front = w.front;
-        missing = w.missing;
-        later = w.later;
-        others = λ q out. insert_elsewhere now path value q (outside (take first path) path q deep out) ∙ w.others q out;
-      },
-      h.1,
-    )
 
 -- nothing lies within a path that isn't there
 pub none_within : (m : Nodes) (top q : List ℕ) → IsTree m → is_path top ≡ true → contains_key m top ≡ false → is_within top q ≡ true → get m q ≡ None
@@ -153,7 +124,7 @@ grow_step old now text top i is inside at made grown =
     in (
       ap (λ p. with_missing now p) front ∙ ap (λ m. with_missing m (slash ∷ take i text)) made ∙ sym (each-push (with_missing old root) done (slash ∷ take i text)) ∙ ap (λ ps. with_each_missing (with_missing old root) ps) (sym list),
       grown_more old _ path _ (i + 1) (i + 1 + 1) (omega arith)
-          (grown_front old now path top (i + 1) (omega (arith, within)) (path_front path (i + 1) is (omega arith) within at') (λ j le. within_front path (i + 1) j le within at') grown),
+          (grown_front old now path [] top (i + 1) (omega (arith, within)) (path_front path (i + 1) is (omega arith) within at') (λ j le. within_front path (i + 1) j le within at') grown),
     )
 
 eqb_apart : (a b : ℕ) → (a ≡ b → ⊥) → (a == b) ≡ false
@@ -196,7 +167,7 @@ first_at old new path top more is none left first =
     let front : take 1 path ≡ root = ap (λ p. take 1 p) whole in
     let some : 1 ≤ length path = omega (arith, ap (λ p. length p) whole) in
     let later : (i : ℕ) → 1 ≤ i → is_within (take 1 path) (take i path) ≡ true = λ i le. let L : List ℕ → Type 0 = λ p. is_within (take 1 p) (take i p) ≡ true in subst L (sym whole) (within_root text i le) in
-    let core = grown_front old old path None 1 some (ap (λ p. is_path p) front) later refl in
+    let core = grown_front old old path [] None 1 some (ap (λ p. is_path p) front) later refl in
     let M : Nodes → Type 0 = λ m. IsGrown old m path more 1 in
     let N : Option ℕ → Type 0 = λ t. IsGrown old (with_missing old (take 1 path)) path t 1 in
     (left ∙ ap (λ p. with_missing old p) front, subst M (sym left) (subst N (sym (first ∙ ap (λ t. first_made old (take 1 path) t) none)) core))
@@ -206,19 +177,21 @@ pub grown_back : (old now : Nodes) (path : List ℕ) (top : Option ℕ) (most : 
 grown_back old now path None most tree h = h
 grown_back old now path (Some end) most tree h = cut_back old now (take end path) tree h.0.front h.0.missing h.0.others
 
-pub made_back : (old now : Nodes) (path : List ℕ) (end : ℕ) → IsTree old → IsMade old now path (Some end) → without now (take end path) ≡ old
-made_back old now path end tree h = cut_back old now (take end path) tree h.0.front h.0.missing h.0.others
-
-pub made_undone : (old now : Nodes) (path : List ℕ) (top : Option ℕ) → IsTree old → contains_key old path ≡ false → IsMade old now path top → without_front now path top ≡ old
-made_undone old now path None tree missing h = absurd cc
-made_undone old now path (Some end) tree missing h = made_back old now path end tree h
-
-pub grown_whole : (old now new : Nodes) (path : List ℕ) (top more : Option ℕ) → is_path path ≡ true → IsGrown old now path top (length path) → new ≡ with_missing now path → more ≡ first_made now path top → IsGrown old new path more (length path)
-grown_whole old now new path top more is grown left first =
+pub grown_whole : (old now new : Nodes) (path v : List ℕ) (top more : Option ℕ) → is_path path ≡ true → IsGrown old now path top (length path) → new ≡ with_added now path v → more ≡ first_made now path top → IsGrown old new path more (length path)
+grown_whole old now new path v top more is grown left first =
     let whole : take (length path) path ≡ path = take_all (length path) path (omega arith) in
     let later : (i : ℕ) → length path ≤ i → is_within (take (length path) path) (take i path) ≡ true = λ i le. within_same _ _ (take_all i path le ∙ sym whole) in
-    let core = grown_front old now path top (length path) (omega arith) (ap (λ p. is_path p) whole ∙ is) later grown in
-    let P : List ℕ → Type 0 = λ p. IsGrown old (with_missing now p) path (first_made now p top) (length path) in
+    let core = grown_front old now path v top (length path) (omega arith) (ap (λ p. is_path p) whole ∙ is) later grown in
+    let P : List ℕ → Type 0 = λ p. IsGrown old (with_added now p v) path (first_made now p top) (length path) in
     let M : Nodes → Type 0 = λ m. IsGrown old m path more (length path) in
-    let N : Option ℕ → Type 0 = λ t. IsGrown old (with_missing now path) path t (length path) in
+    let N : Option ℕ → Type 0 = λ t. IsGrown old (with_added now path v) path t (length path) in
     subst M (sym left) (subst N (sym first) (subst P whole core))
+
+-- once the node itself was made, or memory was wanting for it
+pub grown_added : {X E : Type 0} (r : Result X E) (old now new : Nodes) (path v : List ℕ) (top more : Option ℕ) → is_path path ≡ true → IsGrown old now path top (length path)
+    → OnOk r (new ≡ with_added now path v) → OnOk r (more ≡ first_made now path top) → OnErr r (new ≡ now) → OnErr r (more ≡ top) → IsGrown old new path more (length path)
+grown_added (Ok x) old now new path v top more is grown left first kept same = grown_whole old now new path v top more is grown left first
+grown_added (Err e) old now new path v top more is grown left first kept same =
+    let M : Nodes → Type 0 = λ m. IsGrown old m path more (length path) in
+    let N : Option ℕ → Type 0 = λ t. IsGrown old now path t (length path) in
+    subst M (sym kept) (subst N (sym same) grown)

@@ -11,8 +11,7 @@ use Rattle.neph_base.specs.Path.{slash}
 use Rattle.neph_tree.specs.Places.{behind, is_within}
 use Rattle.neph_tree.specs.Nodes.{Nodes, subtree}
 use Rattle.neph_tree.specs.Entries.{entry_at}
-use Rattle.neph_tree.proofs.EntryLemmas.{order, same_nodes, get-where, entries-from}
-use Rattle.neph_tree.proofs.GrowthLemmas.{tied_same}
+use Rattle.neph_tree.proofs.EntryLemmas.{order, same_nodes, get-where, entries-from, tied_same}
 use Rattle.neph_tree.proofs.OrderLemmas.{front_cmp}
 use Rattle.neph_tree.proofs.Within.{front_behind, same_bytes, bytes_same}
 

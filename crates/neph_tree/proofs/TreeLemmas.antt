@@ -1,18 +1,18 @@
 -- What keeps the store a tree.
-use Rattle.std.proofs.Common.{◌≡◌, ◌⊎◌, inl, inr, ℕ, ◌+◌, Bool, true, false, cond, List, [], ◌∷◌, Option, Some, None, is_some, refl, sym, ap, ◌∙◌, subst}
-use Rattle.std.specs.Prelude.{not, nat_lt, Result, Ok, Err, OnOk, OnErr}
+use Rattle.std.proofs.Common.{◌≡◌, ◌⊎◌, inl, inr, ℕ, ◌+◌, Bool, true, false, cond, List, [], ◌∷◌, length, Option, Some, None, is_some, refl, sym, ap, ◌∙◌, subst, arith, length-append}
+use Rattle.std.specs.Prelude.{not, nat_lt, Result, Ok, Err, OnOk, OnErr, IfNone}
 use Rattle.neph_tree.specs.Refusals.{is_over}
 use Rattle.neph_tree.specs.declared.refusals.TheConstants.{DOMAIN_NODES}
 use Rattle.std.specs.Ordering.{eq_by_cmp}
 use Rattle.std.specs.Cmp.Lexicographic.{nat_list_cmp_total}
 use Rattle.std.specs.FinMap.{get, contains_key, insert, empty, len, get-insert, get-empty, len-insert}
-use Rattle.neph_base.specs.Path.{is_path}
-use Rattle.neph_tree.specs.Places.{is_within, ancestors}
+use Rattle.neph_base.specs.Path.{slash, is_path}
+use Rattle.neph_tree.specs.Places.{is_within, ancestors, cuts}
 use Rattle.neph_tree.specs.Nodes.{Nodes, IsTree, with_missing, with_each_missing, with_node, with_nodes, without, subtree}
-use Rattle.neph_tree.specs.Growth.{with_path, with_paths, with_values, ArePaths, HasEach}
-use Rattle.neph_tree.proofs.EntryLemmas.{order, same_nodes, get-where}
-use Rattle.neph_tree.proofs.Within.{IsIn, within_trans, ancestor_has, ancestor_within}
-use Rattle.neph_tree.proofs.GrowthLemmas.{insert_there, tied_same}
+use Rattle.neph_tree.specs.Growth.{with_added, with_made, with_each_made, with_values, ArePaths, HasEach}
+use Rattle.neph_tree.proofs.EntryLemmas.{order, same_nodes, get-where, tied_same}
+use Rattle.neph_tree.proofs.Within.{IsIn, IsIn-back, cuts-back, within_trans, ancestor_has, ancestor_within}
+use Rattle.neph_tree.proofs.GrowthLemmas.{insert_there}
 
 pub insert_has : (m : Nodes) (k v q : List ℕ) → contains_key (insert m k v) q ≡ true → (q ≡ k) ⊎ (contains_key m q ≡ true)
 insert_has m k v q h = by (eq_by_cmp order q k) refl where
@@ -137,6 +137,18 @@ pub with_node_there : (m : Nodes) (path value : List ℕ) → IsTree m → is_pa
 with_node_there m path value tree is there =
     ap (λ n. insert n path value) (each_none m (ancestors path) (λ q one. let up = ancestor_within path q is one in tree.closed q path up.0 up.1 there))
 
+not_false : (b : Bool) → false ≡ not b → b ≡ true
+not_false true e = refl
+not_false false e = absurd cc
+
+-- the answer of a replacement tells that the node is there
+pub replaced_there : {X : Type 0} (m : Nodes) (path : List ℕ) (back : Option X) → back ≡ None → is_some back ≡ not (contains_key m path) → contains_key m path ≡ true
+replaced_there m path back none tells = not_false _ (ap is_some (sym none) ∙ tells)
+
+pub replaced_is : {X : Type 0} (m n : Nodes) (path value : List ℕ) (back : Option X) → contains_key m path ≡ true → is_some back ≡ not (contains_key m path) → IfNone back (n ≡ insert m path value) → n ≡ insert m path value
+replaced_is m n path value None there tells set = set
+replaced_is m n path value (Some x) there tells set = absurd (let bad : true ≡ false = tells ∙ ap not there in cc)
+
 -- and the count stays
 pub count_there : (m : Nodes) (path value top : List ℕ) → contains_key m path ≡ true → len (subtree (insert m path value) top) ≡ len (subtree m top)
 count_there m path value top there = by (is_within top path) refl where
@@ -170,19 +182,56 @@ IsTree-after (Ok x) old new path value tree is ok err = let Keeps : Nodes → Ty
 IsTree-after (Err e) old new path value tree is ok err = let Keeps : Nodes → Type 0 = λ m. IsTree m in subst Keeps (sym err) tree
 
 -- ---- many nodes
-path_is : (m : Nodes) (k : List ℕ) → contains_key (with_path m k) k ≡ true
-path_is m k = missing_is (with_each_missing m (ancestors k)) k
+pub made_is : (m : Nodes) (k v : List ℕ) → contains_key (with_made m k v) k ≡ true
+made_is m k v =
+    elim (contains_key m k) as (λ b. contains_key m k ≡ b → contains_key (cond b m (with_node m k v)) k ≡ true) [ true ↦ λ e. e | false ↦ λ e. insert_is _ k v ] refl
 
-path_keeps : (m : Nodes) (k q : List ℕ) → contains_key m q ≡ true → contains_key (with_path m k) q ≡ true
-path_keeps m k q h = missing_keeps (with_each_missing m (ancestors k)) k q (each_keeps m (ancestors k) q h)
+pub made_keeps : (m : Nodes) (k v q : List ℕ) → contains_key m q ≡ true → contains_key (with_made m k v) q ≡ true
+made_keeps m k v q h =
+    elim (contains_key m k) as (λ b. contains_key (cond b m (with_node m k v)) q ≡ true) [ true ↦ h | false ↦ insert_keeps _ k v q (each_keeps m (ancestors k) q h) ]
 
-paths_keep : (m : Nodes) (es : List (List ℕ × List ℕ)) (q : List ℕ) → contains_key m q ≡ true → contains_key (with_paths m es) q ≡ true
-paths_keep m [] q h = h
-paths_keep m (e ∷ es) q h = paths_keep (with_path m e.0) es q (path_keeps m e.0 q h)
+each_made_keeps : (m : Nodes) (es : List (List ℕ × List ℕ)) (q : List ℕ) → contains_key m q ≡ true → contains_key (with_each_made m es) q ≡ true
+each_made_keeps m [] q h = h
+each_made_keeps m (e ∷ es) q h = each_made_keeps (with_made m e.0 e.1) es q (made_keeps m e.0 e.1 q h)
 
-pub HasEach-with_paths : (m : Nodes) (es : List (List ℕ × List ℕ)) → HasEach (with_paths m es) es
-HasEach-with_paths m [] = tt
-HasEach-with_paths m (e ∷ es) = (paths_keep (with_path m e.0) es e.0 (path_is m e.0), HasEach-with_paths (with_path m e.0) es)
+pub HasEach-with_each_made : (m : Nodes) (es : List (List ℕ × List ℕ)) → HasEach (with_each_made m es) es
+HasEach-with_each_made m [] = tt
+HasEach-with_each_made m (e ∷ es) = (each_made_keeps (with_made m e.0 e.1) es e.0 (made_is m e.0 e.1), HasEach-with_each_made (with_made m e.0 e.1) es)
+
+pub IsTree-with_made : (m : Nodes) (k v : List ℕ) → IsTree m → is_path k ≡ true → IsTree (with_made m k v)
+IsTree-with_made m k v tree is = elim (contains_key m k) as (λ b. IsTree (cond b m (with_node m k v))) [ true ↦ tree | false ↦ IsTree-with_node m k v tree is ]
+
+-- a path is none of those above it
+apart_above : (path : List ℕ) → IsIn path (ancestors path) → ⊥
+apart_above [] h = h
+apart_above (b ∷ []) h = h
+apart_above (b ∷ c ∷ text) h =
+    elim h [
+      | inl one ↦ omega (arith, ap (λ p. length p) one)
+      | inr more ↦
+          let r = IsIn-back b (b ∷ c ∷ text) (cuts (c ∷ text)) more in
+          let cut = cuts-back (c ∷ text) r.0 r.2 in
+          omega (arith, ap (λ p. length p) r.1, ap (λ p. length p) cut.1, length-append r.0 (slash ∷ cut.0))
+    ]
+
+pub key_grown : (m : Nodes) (path : List ℕ) → contains_key (with_each_missing m (ancestors path)) path ≡ contains_key m path
+key_grown m path = by (contains_key m path) (contains_key (with_each_missing m (ancestors path)) path) refl refl where
+  by : (b d : Bool) → contains_key m path ≡ b → contains_key (with_each_missing m (ancestors path)) path ≡ d → d ≡ b
+  by true d e f = sym f ∙ each_keeps m (ancestors path) path e
+  by false true e f = absurd (elim (each_has m (ancestors path) path f) [ inl above ↦ apart_above path above | inr there ↦ (let bad : true ≡ false = sym there ∙ e in cc) ])
+  by false false e f = refl
+
+pub made_of_added : (m : Nodes) (path value : List ℕ) → IsTree m → is_path path ≡ true → with_added (with_each_missing m (ancestors path)) path value ≡ with_made m path value
+made_of_added m path value tree is =
+    ap (λ b. cond b (with_each_missing m (ancestors path)) (with_node m path value)) (key_grown m path)
+    ∙ elim (contains_key m path) as (λ b. contains_key m path ≡ b → cond b (with_each_missing m (ancestors path)) (with_node m path value) ≡ cond b m (with_node m path value)) [
+      | true ↦ λ e. each_none m (ancestors path) (λ q one. let up = ancestor_within path q is one in tree.closed q path up.0 up.1 e)
+      | false ↦ λ e. refl
+    ] refl
+
+-- a missing node is set by being made
+pub made_new : (m : Nodes) (k v : List ℕ) → contains_key m k ≡ false → with_made m k v ≡ with_node m k v
+made_new m k v missing = ap (λ b. cond b m (with_node m k v)) missing
 
 pub HasEach-insert : (m : Nodes) (k v : List ℕ) (es : List (List ℕ × List ℕ)) → HasEach m es → HasEach (insert m k v) es
 HasEach-insert m k v [] h = tt
@@ -222,37 +271,32 @@ each_swap : (m : Nodes) (ps : List (List ℕ)) (k v : List ℕ) → contains_key
 each_swap m [] k v there = refl
 each_swap m (p ∷ ps) k v there = each_swap (with_missing m p) ps k v (missing_keeps m p k there) ∙ ap (λ n. with_each_missing n ps) (missing_swap m p k v there)
 
-path_swap : (m : Nodes) (p k v : List ℕ) → contains_key m k ≡ true → insert (with_path m p) k v ≡ with_path (insert m k v) p
-path_swap m p k v there =
-    missing_swap (with_each_missing m (ancestors p)) p k v (each_keeps m (ancestors p) k there) ∙ ap (λ n. with_missing n p) (each_swap m (ancestors p) k v there)
+made_swap : (m : Nodes) (p x k v : List ℕ) → contains_key m k ≡ true → insert (with_made m p x) k v ≡ with_made (insert m k v) p x
+made_swap m p x k v there =
+    elim (contains_key m p) as (λ b. contains_key m p ≡ b → insert (cond b m (with_node m p x)) k v ≡ with_made (insert m k v) p x) [
+      | true ↦ λ e. sym (ap (λ b. cond b (insert m k v) (with_node (insert m k v) p x)) (same_keys m k v p there ∙ e))
+      | false ↦ λ e.
+          insert_swap (with_each_missing m (ancestors p)) p k x v (λ same. let bad = sym e ∙ ap (λ q. contains_key m q) same ∙ there in cc) ∙ ap (λ n. insert n p x) (each_swap m (ancestors p) k v there)
+          ∙ sym (ap (λ b. cond b (insert m k v) (with_node (insert m k v) p x)) (same_keys m k v p there ∙ e))
+    ] refl
 
-paths_swap : (m : Nodes) (es : List (List ℕ × List ℕ)) (k v : List ℕ) → contains_key m k ≡ true → insert (with_paths m es) k v ≡ with_paths (insert m k v) es
-paths_swap m [] k v there = refl
-paths_swap m (e ∷ es) k v there = paths_swap (with_path m e.0) es k v (path_keeps m e.0 k there) ∙ ap (λ n. with_paths n es) (path_swap m e.0 k v there)
+each_made_swap : (m : Nodes) (es : List (List ℕ × List ℕ)) (k v : List ℕ) → contains_key m k ≡ true → insert (with_each_made m es) k v ≡ with_each_made (insert m k v) es
+each_made_swap m [] k v there = refl
+each_made_swap m (e ∷ es) k v there = each_made_swap (with_made m e.0 e.1) es k v (made_keeps m e.0 e.1 k there) ∙ ap (λ n. with_each_made n es) (made_swap m e.0 e.1 k v there)
 
-node_of_path : (m : Nodes) (k v : List ℕ) → insert (with_path m k) k v ≡ with_node m k v
-node_of_path m k v =
-    elim (contains_key (with_each_missing m (ancestors k)) k) as (λ b. insert (cond b (with_each_missing m (ancestors k)) (insert (with_each_missing m (ancestors k)) k [])) k v ≡ with_node m k v) [
-      | true ↦ refl
-      | false ↦ insert_over (with_each_missing m (ancestors k)) k [] v
-    ]
-
--- a tree stays one where the keys stay
-same_tree : (m n : Nodes) → ((q : List ℕ) → contains_key n q ≡ contains_key m q) → IsTree m → IsTree n
-same_tree m n keys tree = record {
-  paths = λ q h. tree.paths q (sym (keys q) ∙ h);
-  closed = λ a q pa within h. keys a ∙ tree.closed a q pa within (sym (keys q) ∙ h);
-}
-
-pub IsTree-with_path : (m : Nodes) (k : List ℕ) → IsTree m → is_path k ≡ true → IsTree (with_path m k)
-IsTree-with_path m k tree is =
-    same_tree (with_node m k []) (with_path m k) (λ q. sym (same_keys (with_path m k) k [] q (path_is m k)) ∙ ap (λ n. contains_key n q) (node_of_path m k [])) (IsTree-with_node m k [] tree is)
+node_of_made : (m : Nodes) (k v : List ℕ) → IsTree m → is_path k ≡ true → insert (with_made m k v) k v ≡ with_node m k v
+node_of_made m k v tree is =
+    elim (contains_key m k) as (λ b. contains_key m k ≡ b → insert (cond b m (with_node m k v)) k v ≡ with_node m k v) [
+      | true ↦ λ e. sym (with_node_there m k v tree is e)
+      | false ↦ λ e. insert_over (with_each_missing m (ancestors k)) k v v
+    ] refl
 
 -- to make all the nodes and then set their values is to set them one after the other
-pub nodes_of_paths : (m : Nodes) (es : List (List ℕ × List ℕ)) → with_values (with_paths m es) es ≡ with_nodes m es
-nodes_of_paths m [] = refl
-nodes_of_paths m (e ∷ es) =
-    ap (λ n. with_values n es) (paths_swap (with_path m e.0) es e.0 e.1 (path_is m e.0) ∙ ap (λ n. with_paths n es) (node_of_path m e.0 e.1)) ∙ nodes_of_paths (with_node m e.0 e.1) es
+pub nodes_of_made : (m : Nodes) (es : List (List ℕ × List ℕ)) → IsTree m → ArePaths es → with_values (with_each_made m es) es ≡ with_nodes m es
+nodes_of_made m [] tree are = refl
+nodes_of_made m (e ∷ es) tree are =
+    ap (λ n. with_values n es) (each_made_swap (with_made m e.0 e.1) es e.0 e.1 (made_is m e.0 e.1) ∙ ap (λ n. with_each_made n es) (node_of_made m e.0 e.1 tree are.0))
+    ∙ nodes_of_made (with_node m e.0 e.1) es (IsTree-with_node m e.0 e.1 tree are.0) are.1
 
 pub IsTree-with_nodes : (m : Nodes) (es : List (List ℕ × List ℕ)) → IsTree m → ArePaths es → IsTree (with_nodes m es)
 IsTree-with_nodes m [] tree are = tree

@@ -2,8 +2,8 @@
 use Rattle.std.specs.Prelude.{◌≡◌, ◌≤◌, [], ◌∷◌, ℕ, true, false, List, Option, Some, None, IsTrue, length, take, if◌then◌else◌}
 use Rattle.std.specs.FinMap.{get, contains_key, insert}
 use Rattle.neph_base.specs.Path.{is_path}
-use Rattle.neph_tree.specs.Places.{is_within, ancestors}
-use Rattle.neph_tree.specs.Nodes.{Nodes, without, with_missing, with_each_missing}
+use Rattle.neph_tree.specs.Places.{is_within}
+use Rattle.neph_tree.specs.Nodes.{Nodes, without, with_node}
 
 -- the length of the first node that was made, once this one is there
 abbrev pub first_made : Nodes → List ℕ → Option ℕ → Option ℕ
@@ -23,24 +23,23 @@ abbrev pub IsGrown : Nodes → Nodes → List ℕ → Option ℕ → ℕ → Typ
 IsGrown old new path None most = new ≡ old
 IsGrown old new path (Some end) most = GrowsWithin old new path end × (end ≤ most)
 
--- the node was there, or all that was made lies within the first
-abbrev pub IsMade : Nodes → Nodes → List ℕ → Option ℕ → Type 0
-IsMade old new path None = contains_key old path ≡ true
-IsMade old new path (Some end) = GrowsWithin old new path end × (end ≤ length path)
-
 -- without what lies within the front of this length
 abbrev pub without_front : Nodes → List ℕ → Option ℕ → Nodes
 without_front nodes path None = nodes
 without_front nodes path (Some end) = without nodes (take end path)
 
--- with a node of empty value at the path and above it, where there is none
-abbrev pub with_path : Nodes → List ℕ → Nodes
-with_path nodes path = with_missing (with_each_missing nodes (ancestors path)) path
+-- with this node, where there is none
+abbrev pub with_added : Nodes → List ℕ → List ℕ → Nodes
+with_added nodes path value = if contains_key nodes path then nodes else insert nodes path value
 
--- the same at each of these paths
-abbrev pub with_paths : Nodes → List (List ℕ × List ℕ) → Nodes
-with_paths nodes [] = nodes
-with_paths nodes (e ∷ es) = with_paths (with_path nodes e.0) es
+-- with this node and those above it, where there is none
+abbrev pub with_made : Nodes → List ℕ → List ℕ → Nodes
+with_made nodes path value = if contains_key nodes path then nodes else with_node nodes path value
+
+-- with each of these nodes that is missing, one after the other
+abbrev pub with_each_made : Nodes → List (List ℕ × List ℕ) → Nodes
+with_each_made nodes [] = nodes
+with_each_made nodes (e ∷ es) = with_each_made (with_made nodes e.0 e.1) es
 
 -- with each of these values
 abbrev pub with_values : Nodes → List (List ℕ × List ℕ) → Nodes

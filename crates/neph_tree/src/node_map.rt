@@ -1,12 +1,13 @@
 // A finite map from byte strings, in their order.
-ghost use Rattle.std.specs.Prelude.{◌≡◌, ◌≢◌, [], true, length, IfOk, OnOk, OnErr, slice_get};
+ghost use Rattle.std.specs.Prelude.{◌≡◌, ◌≢◌, length, not, is_some, IfOk, IfNone, IfSome, OnOk, OnErr, slice_get};
 ghost use Rattle.std.specs.Option.{option_copied, option_map};
 ghost use Rattle.std.specs.Ordering.{nat_cmp};
 ghost use Rattle.std.specs.Cmp.Lexicographic.{slice_cmp};
 ghost use Rattle.std.specs.List.Sorted.{IsStrictlySortedBy};
 ghost use Rattle.std.specs.FinMap as map;
 ghost use Rattle.neph_tree.specs.Entries.{entry_at};
-ghost use Rattle.neph_tree.specs.Nodes.{subtree, child_names, without};
+ghost use Rattle.neph_tree.specs.Growth.{with_added};
+ghost use Rattle.neph_tree.specs.Nodes.{subtree, child_names, with_missing, without};
 ghost use Rattle.neph_tree.specs.Places.{home};
 
 use crate::homes::{HOMES, count_down, count_up, no_counts};
@@ -195,8 +196,10 @@ impl NodeMap {
         }
     }
 
-    pub(crate) fn set(&mut self, path: &[u8], value: Vec<u8>) -> Result<(), NoMemory>
-        ensures ok { OnOk result (self.new ≡ map.insert self.old path.now value.items) }
+    // Makes a node, if there is none at the path. It tells whether there was none.
+    pub(crate) fn add(&mut self, path: &[u8], value: Vec<u8>) -> Result<bool, NoMemory>
+        ensures ok { OnOk result (self.new ≡ with_added self.old path.now value.items) }
+        ensures tells { IfOk result (λ added. added ≡ not (map.contains_key self.old path.now)) }
         ensures err { OnErr result (self.new ≡ self.old) }
     {
         if self.entries.len() >= u32::MAX as usize {
@@ -204,30 +207,37 @@ impl NodeMap {
         }
         let key = copy_of(self.alloc, path)?;
         match self.entries.insert(key, value)? {
-            Some(_) => Ok(()),
+            Some(old) => {
+                let _ = self.replace(path, old);
+                Ok(false)
+            }
             None => {
                 count_up(&mut self.homes, path);
-                Ok(())
+                Ok(true)
             }
         }
     }
 
-    // Gives a node that is there another value, for which it needs no memory.
-    pub(crate) fn replace(&mut self, path: Vec<u8>, value: Vec<u8>)
-        requires { map.contains_key self.old path.items ≡ true }
-        ensures { self.new ≡ map.insert self.old path.items value.items }
+    // Gives a node another value, for which it needs no memory. It hands the value back where
+    // there is no such node.
+    pub(crate) fn replace(&mut self, path: &[u8], value: Vec<u8>) -> Option<Vec<u8>>
+        ensures there { IfNone result (self.new ≡ map.insert self.old path.now value.items) }
+        ensures missing { IfSome result (λ back. (back ≡ value) × (self.new ≡ self.old)) }
+        ensures tells { is_some result ≡ not (map.contains_key self.old path.now) }
     {
-        match self.entries.insert(path, value) {
-            Ok(_) => (),
-            Err(_) => unreachable!(),
-        }
+        let Some(slot) = self.entries.get_mut(path) else {
+            return Some(value);
+        };
+        *slot = value;
+        None
     }
 
-    pub(crate) fn set_empty(&mut self, path: &[u8]) -> Result<(), NoMemory>
-        ensures ok { OnOk result (self.new ≡ map.insert self.old path.now []) }
+    pub(crate) fn add_empty(&mut self, path: &[u8]) -> Result<(), NoMemory>
+        ensures ok { OnOk result (self.new ≡ with_missing self.old path.now) }
         ensures err { OnErr result (self.new ≡ self.old) }
     {
-        self.set(path, Vec::new(self.alloc))
+        self.add(path, Vec::new(self.alloc))?;
+        Ok(())
     }
 
     pub(crate) fn cut(&mut self, top: &[u8])

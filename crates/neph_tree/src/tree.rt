@@ -10,7 +10,7 @@ ghost use Rattle.neph_tree.specs.Entries.{shown};
 ghost use Rattle.neph_tree.specs.Growth.{ArePaths};
 ghost use Rattle.neph_tree.specs.Nodes.{IsTree, child_names, subtree, with_node, with_nodes, without};
 
-use crate::growth::{fill, make_all, put};
+use crate::growth::{fill, make, make_all};
 use crate::limit::put_within;
 use crate::node_map::{NodeMap, copy_of};
 use crate::place::Place;
@@ -129,7 +129,9 @@ impl Tree {
         ensures err { OnErr result (self.new ≡ self.old) }
     {
         let value = copy_of(self.alloc, v)?;
-        put(&mut self.nodes, path, value)?;
+        if let Some(value) = self.nodes.replace(path, value) {
+            make(&mut self.nodes, None, path, value)?;
+        }
         Ok(())
     }
 
@@ -139,8 +141,9 @@ impl Tree {
         ensures ok { OnOk result (self.new ≡ with_nodes self.old (shown nodes.items)) }
         ensures err { OnErr result (self.new ≡ self.old) }
     {
-        make_all(&mut self.nodes, &nodes)?;
-        fill(&mut self.nodes, nodes);
+        if !make_all(self.alloc, &mut self.nodes, None, &nodes)? {
+            fill(&mut self.nodes, nodes);
+        }
         Ok(())
     }
 

@@ -1,5 +1,5 @@
 -- Paths that are moved, and the parts of texts.
-use Rattle.std.proofs.Common.{◌≡◌, ℕ, Bool, true, false, cond, List, [], ◌∷◌, ◌++◌, length, take, drop, Some, None, refl, sym, ap, ◌∙◌, append_assoc}
+use Rattle.std.proofs.Common.{◌≡◌, ℕ, Bool, true, false, cond, ◌&&◌, List, [], ◌∷◌, ◌++◌, length, take, drop, Option, Some, None, refl, sym, ap, ◌∙◌}
 use Rattle.std.specs.Prelude.{nat_eq, ◌==◌}
 use Rattle.std.specs.List.{position_or_len}
 use Rattle.std.specs.Option.{option_map}
@@ -9,20 +9,20 @@ use Rattle.std.proofs.lemmas.Bool.{ltb-false}
 use Rattle.std.proofs.lemmas.List.{take_all}
 use Rattle.neph_base.specs.Path.{slash, is_component}
 use Rattle.neph_tree.specs.Places.{behind}
-use Rattle.neph_tree.proofs.PlaceLemmas.{behind_yes, behind_no}
 use Rattle.neph_xsclone.specs.Rewriting.{moved, moved_or_same, kind_in, backends, backend, backend_in_clone}
 
-pub moved_below : (from to path front rest : List ℕ) → pointwise nat_eq path from ≡ false → front ≡ from ++ slash ∷ [] → pointwise nat_eq (take (length front) path) front ≡ true → rest ≡ drop (length front) path
-    → Some ((to ++ slash ∷ []) ++ rest) ≡ moved from to path
-moved_below from to path front rest apart is begins left =
-    ap Some (append_assoc to (slash ∷ []) rest) ∙ ap (λ r. Some (to ++ slash ∷ r)) left
-    ∙ ap (λ o. option_map (λ r. to ++ slash ∷ r) o) (sym (behind_yes front path begins)) ∙ ap (λ f. option_map (λ r. to ++ slash ∷ r) (behind f path)) is
-    ∙ ap (λ b. cond b (Some to) (option_map (λ r. to ++ slash ∷ r) (behind (from ++ slash ∷ []) path))) (sym apart)
+pub moved_below : (from to path : List ℕ) (rest : Option (List ℕ)) → pointwise nat_eq path from ≡ false → rest ≡ behind (from ++ slash ∷ []) path → option_map (λ r. to ++ slash ∷ r) rest ≡ moved from to path
+moved_below from to path rest apart is =
+    ap (λ o. option_map (λ r. to ++ slash ∷ r) o) is ∙ ap (λ b. cond b (Some to) (option_map (λ r. to ++ slash ∷ r) (behind (from ++ slash ∷ []) path))) (sym apart)
 
-pub moved_not : (from to path front : List ℕ) → pointwise nat_eq path from ≡ false → front ≡ from ++ slash ∷ [] → pointwise nat_eq (take (length front) path) front ≡ false → None ≡ moved from to path
-moved_not from to path front apart is begins =
-    ap (λ o. option_map (λ r. to ++ slash ∷ r) o) (sym (behind_no front path begins)) ∙ ap (λ f. option_map (λ r. to ++ slash ∷ r) (behind f path)) is
-    ∙ ap (λ b. cond b (Some to) (option_map (λ r. to ++ slash ∷ r) (behind (from ++ slash ∷ []) path))) (sym apart)
+pub pointwise_joined : (text front back : List ℕ) → pointwise nat_eq text (front ++ back) ≡ (pointwise nat_eq (take (length front) text) front && pointwise nat_eq (drop (length front) text) back)
+pointwise_joined text [] back = refl
+pointwise_joined [] (x ∷ front) back = refl
+pointwise_joined (y ∷ text) (x ∷ front) back =
+    elim (y == x) as (λ b. (b && pointwise nat_eq text (front ++ back)) ≡ ((b && pointwise nat_eq (take (length front) text) front) && pointwise nat_eq (drop (length front) text) back)) [
+      | true ↦ pointwise_joined text front back
+      | false ↦ refl
+    ]
 
 pub first_part : (text : List ℕ) (at : ℕ) → Some at ≡ cond (ltb (position_or_len (λ b. b == slash) text) (length text)) (Some (position_or_len (λ b. b == slash) text)) None → take at text ≡ kind_in text
 first_part text at e = by (ltb (position_or_len (λ b. b == slash) text) (length text)) e where

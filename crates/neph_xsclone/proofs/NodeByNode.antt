@@ -11,8 +11,8 @@ use Rattle.std.proofs.lemmas.Bool.{eqb-true, ltb-false}
 use Rattle.neph_base.specs.Path.{slash}
 use Rattle.neph_tree.specs.Places.{behind, front_of_children, decimal, home, is_within, ancestors}
 use Rattle.neph_tree.specs.Nodes.{Nodes, subtree, with_missing, with_each_missing, with_node, with_nodes}
-use Rattle.neph_tree.proofs.EntryLemmas.{order, get-where, entries-retain_keys, first_of, second_of}
-use Rattle.neph_tree.proofs.GrowthLemmas.{tied_same, insert_there, insert_elsewhere}
+use Rattle.neph_tree.proofs.EntryLemmas.{order, get-where, entries-retain_keys, first_of, second_of, tied_same}
+use Rattle.neph_tree.proofs.GrowthLemmas.{insert_there, insert_elsewhere}
 use Rattle.neph_tree.proofs.Within.{bytes_same}
 use Rattle.neph_xsclone.specs.Rewriting.{moved_or_same, value_in_clone, copied, copies_within, backend}
 use Rattle.neph_xsclone.specs.Copying.{CopiesNodeByNode}

@@ -4,7 +4,7 @@ ghost use Rattle.neph_base.specs.Path.{is_component, is_path_byte};
 ghost use Rattle.neph_tree.specs.Places.{behind};
 ghost use Rattle.neph_xsclone.specs.Rewriting.{id_in_clone, kind_in, backends, backend_in_clone, path_in_clone, value_in_clone};
 
-use crate::bytes::{BACKENDS, backend, copy_of, joined, moved, moved_or_same};
+use crate::bytes::{BACKENDS, backend, copy_of, is_joined, joined, moved, moved_or_same};
 use neph_base::{DomId, NoMemory, SLASH};
 use neph_tree::Place;
 use std::alloc::Global;
@@ -26,8 +26,7 @@ pub(crate) fn value_in_clone(
     if path.ends_with(b"/frontend") || path.ends_with(b"/backend") {
         return path_in_clone(alloc, parent, child, value);
     }
-    let name = joined(alloc, Place::home(parent).bytes(), b"/name")?;
-    if path == name.as_slice() {
+    if is_joined(path, Place::home(parent).bytes(), b"/name") {
         return joined(alloc, value, Place::new(b"-", child).bytes());
     }
     copy_of(alloc, value)

@@ -4,7 +4,6 @@ use Rattle.std.specs.Prelude.{Vec}
 use Rattle.std.specs.FinMap.{entries, entries_sorted}
 use Rattle.std.specs.List.{filter_map}
 use Rattle.neph_tree.specs.Places.{child_name}
-use Rattle.neph_tree.specs.Entries.{shown}
 use Rattle.neph_tree.proofs.EntryLemmas.{order, entries-shown}
 use Rattle.neph_tree.proofs.OrderLemmas.{sorted_names}
 use Rattle.neph_tree.proofs.NameLemmas.{keys_twice}
