@@ -2,7 +2,11 @@
 ghost use Rattle.std.specs.Prelude.{◌<◌};
 
 use crate::{Tally, run_call, top};
+use neph_base::{Noted, Refusal, Reply};
+use neph_core::play;
+use neph_flat::{Plain, Told};
 use neph_io::{MemSink, MemSource};
+use neph_script::parse;
 use std::alloc::{AllocError, Global};
 use std::process::Abort;
 use std::sync::Wait;
@@ -247,6 +251,41 @@ fn page_steps_are_tallied(rt: HostRuntime) -> Result<(), Fail> {
     expect_steps(&rt, alloc, &CASES[0], 0)?;
     expect_steps(&rt, alloc, &CASES[1], 4)?;
     expect_steps(&rt, alloc, &CASES[5], 0)?;
+    Ok(())
+}
+
+// What the plain machine was told of the free frames, by what it answered.
+fn told(reply: &Reply) -> Told {
+    match reply {
+        Reply::Number(free) => Told::Free(*free),
+        Reply::Refused(Refusal::Frames { free, .. }) => Told::Free(*free),
+        Reply::Refused(Refusal::NoFrame) => Told::Short,
+        _ => Told::Enough,
+    }
+}
+
+// The plain machine answers each entry of a script's run as the machine over frames did, and no
+// domain is live then.
+fn expect_plain(rt: &impl Abort, alloc: Global, case: &Case) -> Result<(), Fail> {
+    let text = case.script.as_bytes();
+    assert!(rt; text.len() <= 1_048_576);
+    let Ok(script) = parse(alloc, text) else {
+        return Ok(());
+    };
+    let played = play(alloc, &script)?;
+    let mut plain = Plain::start(alloc, &script)?;
+    for Noted { entry, reply } in played.machine.history() {
+        assert!(rt; plain.step(entry, told(reply)) == Ok(*reply));
+    }
+    assert!(rt; plain.is_over());
+    Ok(())
+}
+
+#[test]
+fn the_plain_machine_answers_each_run_alike(rt: HostRuntime) -> Result<(), Fail> {
+    for case in &CASES {
+        expect_plain(&rt, rt.alloc(), case)?;
+    }
     Ok(())
 }
 
