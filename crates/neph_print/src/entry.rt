@@ -3,9 +3,10 @@ ghost use Rattle.std.specs.Prelude.{◌≡◌, ◌++◌, IfOk, OnOk, codes};
 ghost use Rattle.std.specs.Fmt.{decimal};
 ghost use Rattle.neph_model.specs.Transcript.{entry_line, refusal_text, reply_text};
 
-use crate::basic::{put_hex, put_labelled, put_number, put_word};
 use crate::command::put_family_command;
+use itoa::write_digits;
 use neph_base::{DomId, Entry, NoMemory, Refusal, Reply};
+use neph_command::{put_hex, put_labelled, put_number, put_word};
 use neph_model::Script;
 use std::alloc::Global;
 
@@ -48,7 +49,7 @@ pub fn put_entry_line(
     }
     text.extend_from_slice(b" = ")?;
     put_reply(text, reply)?;
-    text.extend_from_slice(b"\n")?;
+    text.push(b'\n')?;
     Ok(())
 }
 
@@ -57,9 +58,12 @@ fn put_place(text: &mut Vec<u8>, dom: DomId, line: u16) -> Result<(), NoMemory>
     ensures { OnOk result (text.new.items ≡ text.old.items
         ++ (decimal dom ++ codes ":" ++ decimal line ++ codes " ")) }
 {
-    put_number(text, dom.get())?;
-    put_labelled(text, b":", u32::from(line))?;
-    put_word(text, b" ")
+    // From the last byte to the first.
+    let mut place = [b' '; 16];
+    let line_at = write_digits(u64::from(line), &mut place, 15);
+    place[line_at - 1] = b':';
+    let at = write_digits(u64::from(dom.get()), &mut place, line_at - 1);
+    put_word(text, &place[at..])
 }
 
 fn put_reply(text: &mut Vec<u8>, reply: Reply) -> Result<(), NoMemory>

@@ -2,8 +2,8 @@
 ghost use Rattle.std.specs.Prelude.{◌≡◌, ◌++◌, IfOk, OnOk};
 ghost use Rattle.neph_model.specs.Transcript.{frames_line};
 
-use crate::basic::{put_labelled, put_word};
 use neph_base::NoMemory;
+use neph_command::{put_labelled, put_word};
 use neph_model::FrameCounts;
 use std::alloc::Global;
 

@@ -1,7 +1,6 @@
 //! The text of transcripts.
 #![tactic(auto)]
 
-mod basic;
 mod command;
 mod entry;
 mod frames;

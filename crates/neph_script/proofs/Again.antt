@@ -13,9 +13,9 @@ use Rattle.neph_script.specs.declared.state.Place.{Place}
 use Rattle.neph_script.specs.declared.state.Place.TheVariants as place
 use Rattle.neph_script.specs.declared.state.Item.{Item}
 use Rattle.neph_script.specs.declared.state.Item.TheVariants as item
-use Rattle.neph_script.specs.declared.why.Why.{Why}
+use Rattle.neph_command.specs.declared.why.Why.{Why}
 use Rattle.neph_script.specs.State.{Read, Draft, nothing_read, script_read}
-use Rattle.neph_script.specs.Words.{◌>>=◌}
+use Rattle.neph_command.specs.Words.{◌>>=◌}
 use Rattle.neph_script.specs.Lines.{taken, may_stand}
 use Rattle.neph_script.specs.Spelling.{Stands, IsActor, turns_words, form_said}
 use Rattle.neph_script.specs.Text.{script_words, script_text, turn_groups}

@@ -10,15 +10,15 @@ use Rattle.neph_base.specs.declared.command.Command.TheVariants as command
 use Rattle.neph_model.specs.declared.script.Label.{Label}
 use Rattle.neph_model.specs.Programs.{label_line}
 use Rattle.neph_model.specs.Words.{command_words, label_name, name_of}
-use Rattle.neph_script.specs.declared.command.Said.{Said}
-use Rattle.neph_script.specs.declared.command.Said.TheVariants as said
-use Rattle.neph_script.specs.declared.why.Why.TheVariants as why
-use Rattle.neph_script.specs.Forms.{equals}
+use Rattle.neph_command.specs.declared.command.Said.{Said}
+use Rattle.neph_command.specs.declared.command.Said.TheVariants as said
+use Rattle.neph_command.specs.declared.why.Why.TheVariants as why
+use Rattle.neph_command.specs.Words.{equals}
 use Rattle.neph_script.specs.Lines.{settled, settled_one, toward, ahead, label_place}
-use Rattle.neph_script.specs.Spelling.{said_words, IsSaid, InRange}
+use Rattle.neph_command.specs.Commands.{said_words, InRange}
 use Rattle.neph_script.specs.Text.{body_words, label_words}
-use Rattle.neph_script.proofs.Inverse.{bind_ok, let_in, same_ok}
-use Rattle.neph_script.proofs.Ranges.{equal_from}
+use Rattle.neph_command.proofs.Inverse.{bind_ok, let_in, same_ok}
+use Rattle.neph_command.proofs.Ranges.{equal_from}
 
 -- the labels stand within so many commands behind a number
 AreWithin : ℕ → List Label → Type 0
@@ -87,29 +87,23 @@ toward_words labels line word target jump c spelled e =
     let one = bind_ok (ahead labels line (label_place labels target)) (λ p. Ok (jump p)) c e in
     ap (command_words labels) (sym (same_ok (jump one.value) c one.rest)) ∙ spelled one.value ∙ ap (λ (w : List ℕ). word ∷ w ∷ []) (named_label labels line target (label_place labels target) one.value refl one.first)
 
-whole_words : (labels : List Label) (c : Command) → InRange c → command_words labels c ≡ command_words [] c
-whole_words labels (command.Jump label) h = absurd h
-whole_words labels (command.JChild label) h = absurd h
-whole_words labels (command.JFail label) h = absurd h
-whole_words labels (command.W addr bytes) h = refl
-whole_words labels (command.R addr len) h = refl
-whole_words labels (command.Map vpn pfn mode) h = refl
-whole_words labels (command.Unmap vpn) h = refl
-whole_words labels command.Exit h = refl
-whole_words labels command.Free h = refl
-whole_words labels command.Clone h = refl
+whole_words : (labels : List Label) (c : Command) → InRange (said.Whole c) → command_words labels c ≡ said_words (said.Whole c)
+whole_words labels (command.Jump label) h = absurd cc
+whole_words labels (command.JChild label) h = absurd cc
+whole_words labels (command.JFail label) h = absurd cc
+whole_words labels _ h = refl
 
-one_words : (labels : List Label) (line : ℕ) (s : Said) (c : Command) → IsSaid s → settled_one labels line s ≡ Ok c → command_words labels c ≡ said_words s
+one_words : (labels : List Label) (line : ℕ) (s : Said) (c : Command) → InRange s → settled_one labels line s ≡ Ok c → command_words labels c ≡ said_words s
 one_words labels line (said.Whole x) c h e = ap (command_words labels) (sym (same_ok x c e)) ∙ whole_words labels x h
 one_words labels line (said.Jump target) c h e = toward_words labels line (codes "jump") target command.Jump c (λ p. refl) e
 one_words labels line (said.JChild target) c h e = toward_words labels line (codes "jchild") target command.JChild c (λ p. refl) e
 one_words labels line (said.JFail target) c h e = toward_words labels line (codes "jfail") target command.JFail c (λ p. refl) e
 
-pub settled_words : (labels : List Label) (line : ℕ) (ss : List Said) (cs : List Command) → All IsSaid ss → settled labels line ss ≡ Ok cs → map (command_words labels) cs ≡ map said_words ss
+pub settled_words : (labels : List Label) (line : ℕ) (ss : List Said) (cs : List Command) → All InRange ss → settled labels line ss ≡ Ok cs → map (command_words labels) cs ≡ map said_words ss
 settled_words labels line [] cs h e = ap (map (command_words labels)) (sym (same_ok [] cs e))
 settled_words labels line (s ∷ ss) cs h e =
     let one = bind_ok (settled_one labels line s) _ cs e in
     let two = bind_ok (settled labels (line + 1) ss) _ cs one.rest in
     ap (map (command_words labels)) (sym (same_ok (one.value ∷ two.value) cs two.rest))
-    ∙ ap (λ (w : List (List ℕ)). w ∷ map (command_words labels) two.value) (one_words labels line s one.value (All-head IsSaid s ss h) one.first)
-    ∙ ap (λ (ws : List (List (List ℕ))). said_words s ∷ ws) (settled_words labels (line + 1) ss two.value (All-tail IsSaid s ss h) two.first)
+    ∙ ap (λ (w : List (List ℕ)). w ∷ map (command_words labels) two.value) (one_words labels line s one.value (All-head InRange s ss h) one.first)
+    ∙ ap (λ (ws : List (List (List ℕ))). said_words s ∷ ws) (settled_words labels (line + 1) ss two.value (All-tail InRange s ss h) two.first)

@@ -1,41 +1,30 @@
 -- A text, cut at the first place of a byte.
-use Rattle.std.proofs.Common.{◌≡◌, ℕ, ◌+◌, ◌<◌, ◌≤◌, ◌==◌, Bool, true, false, cond, List, [], ◌∷◌, ◌++◌, length, take, drop, map, Some, None, refl, sym, ap, ◌∙◌, arith, append_assoc}
-use Rattle.std.specs.List.{slice_split, onto_first, position_or_len}
-use Rattle.std.proofs.Math.Dec.{ltb}
-use Rattle.std.specs.Prelude.{not}
+use Rattle.std.proofs.Common.{◌≡◌, ℕ, zero, suc, ◌+◌, ◌<◌, ◌==◌, Bool, true, false, List, [], ◌∷◌, ◌++◌, length, take, drop, get_or, map, refl, sym, ap, ◌∙◌, arith, append_assoc}
+use Rattle.std.specs.List.{slice_split, onto_first}
 use Rattle.std.proofs.lemmas.Bool.Decides.{nat_tests}
-use Rattle.std.proofs.lemmas.Bool.{ltb-true, ltb-false}
 use Rattle.std.proofs.lemmas.List.{map-append}
-use Rattle.std.proofs.lemmas.List.Splits.{slice_split_first, length-slice_split}
+use Rattle.std.proofs.lemmas.List.Splits.{slice_split-cons_yes, slice_split-cons_no, length-slice_split}
 use Rattle.neph_script.specs.Grammar.{parts_at, lines, without_empty_end}
 
-tests_same : (k n : ℕ) (at : ℕ) → Some at ≡ cond (ltb k n) (Some k) None → (k < n) × (at ≡ k)
-tests_same k n at e = by (ltb k n) refl e where
-  by : (b : Bool) → ltb k n ≡ b → Some at ≡ cond b (Some k) None → (k < n) × (at ≡ k)
-  by true t e = (ltb-true k n t, cc)
-  by false t e = absurd cc
+-- a byte that is not c, in front of parts
+abbrev IsAway : ℕ → List ℕ → ℕ → Type 0
+IsAway c text k = (get_or text k 0 == c) ≡ true → ⊥
 
-tests_none : (k n : ℕ) → None ≡ cond (ltb k n) (Some k) None → n ≤ k
-tests_none k n e = by (ltb k n) refl e where
-  by : (b : Bool) → ltb k n ≡ b → None ≡ cond b (Some k) None → n ≤ k
-  by true t e = absurd cc
-  by false t e = ltb-false k n t
+not_true : (b : Bool) → (b ≡ true → ⊥) → b ≡ false
+not_true true h = absurd (h refl)
+not_true false h = refl
 
-uncut_one : (p : ℕ → Bool) (x : ℕ) (xs : List ℕ) (b : Bool) → p x ≡ b → length (x ∷ xs) ≤ cond (not b) (1 + position_or_len p xs) 0 → (length xs ≤ position_or_len p xs → slice_split p xs ≡ xs ∷ [])
-    → cond b ([] ∷ slice_split p xs) (onto_first x (slice_split p xs)) ≡ (x ∷ xs) ∷ []
-uncut_one p x xs true e h more = absurd (omega arith)
-uncut_one p x xs false e h more = ap (onto_first x) (more (omega arith))
+pub cut_here : (c : ℕ) (text : List ℕ) (at : ℕ) → at < length text → ((k : ℕ) → k < at → IsAway c text k) → (get_or text at 0 == c) ≡ true → parts_at c text ≡ take at text ∷ parts_at c (drop (at + 1) text)
+cut_here c [] at lt away here = absurd (omega arith)
+cut_here c (x ∷ xs) zero lt away here = slice_split-cons_yes (λ b. b == c) x xs here
+cut_here c (x ∷ xs) (suc at) lt away here =
+    slice_split-cons_no (λ b. b == c) x xs (not_true _ (away 0 (omega arith)))
+    ∙ ap (onto_first x) (cut_here c xs at (omega arith) (λ k h. away (suc k) (omega arith)) here)
+    ∙ (let next : suc (at + 1) ≡ suc at + 1 = omega arith in ap (λ (k : ℕ). (x ∷ take at xs) ∷ parts_at c (drop k (x ∷ xs))) next)
 
-uncut : (p : ℕ → Bool) (xs : List ℕ) → length xs ≤ position_or_len p xs → slice_split p xs ≡ xs ∷ []
-uncut p [] h = refl
-uncut p (x ∷ xs) h = uncut_one p x xs (p x) refl h (λ le. uncut p xs le)
-
-pub cut_here : (c : ℕ) (text : List ℕ) (at : ℕ) → Some at ≡ cond (ltb (position_or_len (λ b. b == c) text) (length text)) (Some (position_or_len (λ b. b == c) text)) None
-    → parts_at c text ≡ take at text ∷ parts_at c (drop (at + 1) text)
-cut_here c text at e = let h = tests_same _ _ at e in rw h.1 (slice_split_first (λ b. b == c) text 0 h.0)
-
-pub cut_nowhere : (c : ℕ) (text : List ℕ) → None ≡ cond (ltb (position_or_len (λ b. b == c) text) (length text)) (Some (position_or_len (λ b. b == c) text)) None → parts_at c text ≡ text ∷ []
-cut_nowhere c text e = uncut (λ b. b == c) text (tests_none _ _ e)
+pub cut_nowhere : (c : ℕ) (text : List ℕ) → ((k : ℕ) → k < length text → IsAway c text k) → parts_at c text ≡ text ∷ []
+cut_nowhere c [] away = refl
+cut_nowhere c (x ∷ xs) away = slice_split-cons_no (λ b. b == c) x xs (not_true _ (away 0 (omega arith))) ∙ ap (onto_first x) (cut_nowhere c xs (λ k h. away (suc k) (omega arith)))
 
 some_part : (p : ℕ → Bool) (xs : List ℕ) → 0 < length (slice_split p xs)
 some_part p xs = omega (arith, length-slice_split p xs)

@@ -2,14 +2,14 @@
 use Rattle.std.proofs.Common.{◌≡◌, ℕ, ◌+◌, Bool, true, false, cond, List, [], ◌∷◌, Result, Ok, Err, refl, subst}
 use Rattle.neph_model.specs.declared.script.Script.{Script}
 use Rattle.neph_script.specs.declared.state.Item.{Item}
-use Rattle.neph_script.specs.declared.why.Why.{Why}
-use Rattle.neph_script.specs.declared.why.Why.TheVariants as why
+use Rattle.neph_command.specs.declared.why.Why.{Why}
+use Rattle.neph_command.specs.declared.why.Why.TheVariants as why
 use Rattle.neph_script.specs.declared.why.BadScript.{BadScript}
 use Rattle.neph_script.specs.State.{Read, script_read}
 use Rattle.neph_script.specs.Lines.{judged, taken}
 use Rattle.neph_script.specs.Spelling.{Stands}
 use Rattle.neph_script.specs.Grammar.{words, is_text, is_skipped, with_words, with_line, may_end, read_on, read_lines}
-use Rattle.neph_script.proofs.Inverse.{bind_ok, let_in, same_ok}
+use Rattle.neph_command.proofs.Inverse.{bind_ok, let_in, same_ok}
 use Rattle.neph_script.proofs.LineLaws.{judged_stands}
 
 -- a line that was taken: it was skipped, or it says something

@@ -13,21 +13,23 @@ use Rattle.neph_model.specs.declared.script.Label.{Label}
 use Rattle.neph_model.specs.declared.script.Start.{Start}
 use Rattle.neph_model.specs.Programs.{command_in, label_line}
 use Rattle.neph_model.specs.WellFormed.{FitsPage, IsAhead, JumpsAhead, IsWellFormedProgram, IsWellFormedStart, IsWellFormed, frames_of_starts}
-use Rattle.neph_script.specs.declared.command.Said.{Said}
-use Rattle.neph_script.specs.declared.command.Said.TheVariants as said
+use Rattle.neph_command.specs.declared.command.Said.{Said}
+use Rattle.neph_command.specs.declared.command.Said.TheVariants as said
 use Rattle.neph_script.specs.declared.state.Place.{Place}
 use Rattle.neph_script.specs.declared.state.Place.TheVariants as place
 use Rattle.neph_script.specs.declared.state.Item.{Item}
 use Rattle.neph_script.specs.declared.state.Item.TheVariants as item
 use Rattle.neph_script.specs.declared.form.Form.{Form}
 use Rattle.neph_script.specs.declared.form.Form.TheVariants as form
-use Rattle.neph_script.specs.declared.why.Why.TheVariants as why
+use Rattle.neph_command.specs.declared.why.Why.TheVariants as why
 use Rattle.neph_script.specs.State.{Read, nothing_read, script_read}
-use Rattle.neph_script.specs.Forms.{equals}
+use Rattle.neph_command.specs.Words.{equals}
 use Rattle.neph_script.specs.Lines.{taken, settled, settled_one, toward, ahead, label_place, may_stand}
-use Rattle.neph_script.specs.Spelling.{Stands, IsSaid, InRange}
+use Rattle.neph_command.specs.Commands.{InRange}
+use Rattle.neph_command.proofs.CommandLaws.{within}
+use Rattle.neph_script.specs.Spelling.{Stands}
 use Rattle.neph_script.specs.Grammar.{read_script, lines, may_end}
-use Rattle.neph_script.proofs.Inverse.{bind_ok, let_in, same_ok}
+use Rattle.neph_command.proofs.Inverse.{bind_ok, let_in, same_ok}
 use Rattle.neph_script.proofs.Folded.{folded}
 
 -- the frames were read where their line stands, and the starting domains so far need no more
@@ -39,7 +41,7 @@ FramesRead _ n starts = (16 ≤ n) × (n ≤ 16384) × (frames_of_starts starts 
 record Formed (r : Read) : Type 0 where
   frames : FramesRead r.place r.frames r.starts
   programs : All IsWellFormedProgram r.programs
-  said : All IsSaid r.draft.said
+  said : All InRange r.draft.said
   said_few : length r.draft.said ≤ 512
   labels : All (λ (l : Label). l.at ≤ length r.draft.said) r.draft.labels
   starts : All (IsWellFormedStart (length r.programs)) r.starts
@@ -47,7 +49,7 @@ record Formed (r : Read) : Type 0 where
 
 at_start : Formed nothing_read
 unfolding FramesRead
-at_start = record { frames = refl; programs = All-nil IsWellFormedProgram; said = All-nil IsSaid; said_few = omega arith; labels = All-nil (λ (l : Label). l.at ≤ 0); starts = All-nil (IsWellFormedStart 0); few = omega arith }
+at_start = record { frames = refl; programs = All-nil IsWellFormedProgram; said = All-nil InRange; said_few = omega arith; labels = All-nil (λ (l : Label). l.at ≤ 0); starts = All-nil (IsWellFormedStart 0); few = omega arith }
 
 -- a form that stands behind the frames only
 framed : (f : Form) (p : Place) (n : ℕ) (starts : List Start) → may_stand f place.Top ≡ false → may_stand f place.Headed ≡ false → may_stand f p ≡ true → FramesRead p n starts → (16 ≤ n) × (n ≤ 16384) × (frames_of_starts starts ≤ n)
@@ -91,34 +93,30 @@ toward_settles labels line target jump c fits e =
     let one = bind_ok (ahead labels line (label_place labels target)) (λ p. Ok (jump p)) c e in
     subst (Settles labels line) (same_ok (jump one.value) c one.rest) (fits one.value (ahead_is labels line target (label_place labels target) one.value refl one.first))
 
-whole_settles : (labels : List Label) (line : ℕ) (c : Command) → InRange c → Settles labels line c
+whole_settles : (labels : List Label) (line : ℕ) (c : Command) → InRange (said.Whole c) → Settles labels line c
 unfolding Settles
-whole_settles labels line (command.W addr bytes) h = (h.4, tt)
-whole_settles labels line (command.R addr len) h = ((h.1, h.2, h.3), tt)
-whole_settles labels line (command.Map vpn pfn mode) h = (tt, tt)
-whole_settles labels line (command.Unmap vpn) h = (tt, tt)
-whole_settles labels line (command.Jump label) h = absurd h
-whole_settles labels line (command.JChild label) h = absurd h
-whole_settles labels line (command.JFail label) h = absurd h
-whole_settles labels line command.Exit h = (tt, tt)
-whole_settles labels line command.Free h = (tt, tt)
-whole_settles labels line command.Clone h = (tt, tt)
+whole_settles labels line (command.W addr bytes) h = (within _ why.Hex h.right, tt)
+whole_settles labels line (command.R addr len) h = ((h.fits.1.0.0, h.fits.1.0.1, within _ why.Number h.right), tt)
+whole_settles labels line (command.Jump label) h = absurd cc
+whole_settles labels line (command.JChild label) h = absurd cc
+whole_settles labels line (command.JFail label) h = absurd cc
+whole_settles labels line _ h = (tt, tt)
 
-one_settles : (labels : List Label) (line : ℕ) (s : Said) (c : Command) → IsSaid s → settled_one labels line s ≡ Ok c → Settles labels line c
+one_settles : (labels : List Label) (line : ℕ) (s : Said) (c : Command) → InRange s → settled_one labels line s ≡ Ok c → Settles labels line c
 unfolding Settles
 one_settles labels line (said.Whole x) c h e = subst (Settles labels line) (same_ok x c e) (whole_settles labels line x h)
 one_settles labels line (said.Jump target) c h e = toward_settles labels line target command.Jump c (λ p a. (tt, a)) e
 one_settles labels line (said.JChild target) c h e = toward_settles labels line target command.JChild c (λ p a. (tt, a)) e
 one_settles labels line (said.JFail target) c h e = toward_settles labels line target command.JFail c (λ p a. (tt, a)) e
 
-all_fit : (labels : List Label) (line : ℕ) (ss : List Said) (cs : List Command) → All IsSaid ss → settled labels line ss ≡ Ok cs → All FitsPage cs
+all_fit : (labels : List Label) (line : ℕ) (ss : List Said) (cs : List Command) → All InRange ss → settled labels line ss ≡ Ok cs → All FitsPage cs
 unfolding Settles
 all_fit labels line [] cs h e = subst (All FitsPage) (same_ok [] cs e) (All-nil FitsPage)
 all_fit labels line (s ∷ ss) cs h e =
     let one = bind_ok (settled_one labels line s) _ cs e in
     let two = bind_ok (settled labels (line + 1) ss) _ cs one.rest in
     subst (All FitsPage) (same_ok (one.value ∷ two.value) cs two.rest)
-    (All-cons FitsPage one.value two.value (one_settles labels line s one.value (All-head IsSaid s ss h) one.first).0 (all_fit labels (line + 1) ss two.value (All-tail IsSaid s ss h) two.first))
+    (All-cons FitsPage one.value two.value (one_settles labels line s one.value (All-head InRange s ss h) one.first).0 (all_fit labels (line + 1) ss two.value (All-tail InRange s ss h) two.first))
 
 -- each command from a line on jumps ahead
 AllAhead : List Label → ℕ → List Command → Type 0
@@ -129,14 +127,14 @@ unfolding AllAhead
 ahead_cons labels line c cs here more zero = let same : line ≡ line + 0 = omega arith in subst (λ (n : ℕ). JumpsAhead labels n c) same here
 ahead_cons labels line c cs here more (suc k) = let same : line + 1 + k ≡ line + suc k = omega arith in subst (λ (n : ℕ). JumpsAhead labels n (command_in cs k)) same (more k)
 
-all_ahead : (labels : List Label) (line : ℕ) (ss : List Said) (cs : List Command) → All IsSaid ss → settled labels line ss ≡ Ok cs → AllAhead labels line cs
+all_ahead : (labels : List Label) (line : ℕ) (ss : List Said) (cs : List Command) → All InRange ss → settled labels line ss ≡ Ok cs → AllAhead labels line cs
 unfolding AllAhead Settles
 all_ahead labels line [] cs h e = subst (AllAhead labels line) (same_ok [] cs e) (λ k. tt)
 all_ahead labels line (s ∷ ss) cs h e =
     let one = bind_ok (settled_one labels line s) _ cs e in
     let two = bind_ok (settled labels (line + 1) ss) _ cs one.rest in
     subst (AllAhead labels line) (same_ok (one.value ∷ two.value) cs two.rest)
-    (ahead_cons labels line one.value two.value (one_settles labels line s one.value (All-head IsSaid s ss h) one.first).1 (all_ahead labels (line + 1) ss two.value (All-tail IsSaid s ss h) two.first))
+    (ahead_cons labels line one.value two.value (one_settles labels line s one.value (All-head InRange s ss h) one.first).1 (all_ahead labels (line + 1) ss two.value (All-tail InRange s ss h) two.first))
 
 as_many : (labels : List Label) (line : ℕ) (said : List Said) (cs : List Command) → settled labels line said ≡ Ok cs → length cs ≡ length said
 as_many labels line [] cs e = ap length (sym (same_ok [] cs e))
@@ -173,12 +171,12 @@ unfolding FramesRead
 keeps r ws item.Heading l s = record { frames = none_started form.Heading r.place r.frames r.starts refl refl refl refl refl s.place l.frames; programs = l.programs; said = l.said; said_few = l.said_few; labels = l.labels; starts = l.starts; few = l.few }
 keeps r ws (item.Frames n) l s = record { frames = (s.said.0, s.said.1, none_needed r.starts n (none_started form.Frames r.place r.frames r.starts refl refl refl refl refl s.place l.frames)); programs = l.programs; said = l.said; said_few = l.said_few; labels = l.labels; starts = l.starts; few = l.few }
 keeps r ws (item.Program name) l s =
-    record { frames = framed form.Program r.place r.frames r.starts refl refl s.place l.frames; programs = l.programs; said = All-nil IsSaid; said_few = omega arith; labels = no_said 0; starts = l.starts; few = l.few }
+    record { frames = framed form.Program r.place r.frames r.starts refl refl s.place l.frames; programs = l.programs; said = All-nil InRange; said_few = omega arith; labels = no_said 0; starts = l.starts; few = l.few }
 keeps r ws (item.Command c) l s =
     record {
       frames = l.frames;
       programs = l.programs;
-      said = All-push IsSaid r.draft.said c l.said s.said;
+      said = All-push InRange r.draft.said c l.said s.said;
       said_few = omega (arith, longer r c, leb-false 512 (length r.draft.said) s.few);
       labels = λ k d lt. omega (arith, longer r c, l.labels k d lt);
       starts = l.starts;
@@ -200,7 +198,7 @@ keeps r ws (item.End cs) l s =
     record {
       frames = framed form.End r.place r.frames r.starts refl refl s.place l.frames;
       programs = All-push IsWellFormedProgram r.programs p l.programs (ended_formed r cs l s.said);
-      said = All-nil IsSaid;
+      said = All-nil InRange;
       said_few = omega arith;
       labels = no_said 0;
       starts = subst (λ (n : ℕ). All (IsWellFormedStart n) r.starts) (sym more) (more_programs (length r.programs) r.starts l.starts);

@@ -13,8 +13,8 @@ use Rattle.neph_model.specs.declared.script.Program.{Program}
 use Rattle.neph_model.specs.declared.script.Label.{Label}
 use Rattle.neph_model.specs.declared.script.Start.{Start}
 use Rattle.neph_model.specs.Words.{command_words}
-use Rattle.neph_script.specs.declared.command.Said.{Said}
-use Rattle.neph_script.specs.declared.form.Verb.{Verb}
+use Rattle.neph_command.specs.declared.command.Said.{Said}
+use Rattle.neph_command.specs.declared.verb.Verb.{Verb}
 use Rattle.neph_script.specs.declared.form.Form.TheVariants as form
 use Rattle.neph_script.specs.declared.state.Place.{Place}
 use Rattle.neph_script.specs.declared.state.Place.TheVariants as place
@@ -22,7 +22,8 @@ use Rattle.neph_script.specs.declared.state.Item.{Item}
 use Rattle.neph_script.specs.declared.state.Item.TheVariants as item
 use Rattle.neph_script.specs.State.{Read, Draft, nothing_read, no_draft}
 use Rattle.neph_script.specs.Lines.{taken, settled, may_stand}
-use Rattle.neph_script.specs.Spelling.{Stands, IsSaid, said_words, start_words, item_words, verb_said}
+use Rattle.neph_command.specs.Commands.{InRange, said_words, verb_said}
+use Rattle.neph_script.specs.Spelling.{Stands, start_words, item_words}
 use Rattle.neph_script.specs.Text.{heading_words, frames_words, program_head, body_words, label_words, end_words, program_words}
 use Rattle.neph_script.proofs.Bodies.{command_added, label_added, same_body, settled_words}
 
@@ -90,7 +91,7 @@ label_put p n ps d ts l is none within at =
     rw (is, none)
     (inside_added n ps d (record d { labels = d.labels ++ l ∷ [] }) (label_words l) (ap (λ (xs : List (List (List ℕ))). program_head d.name ∷ xs) (label_added said_words 0 (length d.said) d.said d.labels l (omega arith) within at)))
 
-closed : (n : ℕ) (ps : List Program) (d : Draft) (cs : List Command) → All IsSaid d.said → settled d.labels 0 d.said ≡ Ok cs
+closed : (n : ℕ) (ps : List Program) (d : Draft) (cs : List Command) → All InRange d.said → settled d.labels 0 d.said ≡ Ok cs
     → front_of place.Between n (ps ++ record { name = d.name; commands = cs; labels = d.labels } ∷ []) no_draft [] ≡ front_of place.Inside n ps d [] ++ end_words ∷ []
 closed n ps d cs fine e =
     let q : Program = record { name = d.name; commands = cs; labels = d.labels } in
@@ -100,7 +101,7 @@ closed n ps d cs fine e =
     ap (λ (xs : List (List (List ℕ))). two n ++ xs) (append-nil (flat_map program_words (ps ++ q ∷ [])) ∙ flat_map-append program_words ps (q ∷ []) ∙ ap (λ (xs : List (List (List ℕ))). f ++ xs) (append-nil (program_words q) ∙ same))
     ∙ one_more (two n) f (open_words d) end_words ∙ ap (λ (xs : List (List (List ℕ))). (two n ++ (f ++ xs)) ++ end_words ∷ []) (sym (append-nil (open_words d)))
 
-end_put : (p : Place) (n : ℕ) (ps : List Program) (d : Draft) (ts : List Start) (cs : List Command) → p ≡ place.Inside → ts ≡ [] → All IsSaid d.said → settled d.labels 0 d.said ≡ Ok cs
+end_put : (p : Place) (n : ℕ) (ps : List Program) (d : Draft) (ts : List Start) (cs : List Command) → p ≡ place.Inside → ts ≡ [] → All InRange d.said → settled d.labels 0 d.said ≡ Ok cs
     → front_of place.Between n (ps ++ record { name = d.name; commands = cs; labels = d.labels } ∷ []) no_draft ts ≡ front_of p n ps d ts ++ end_words ∷ []
 end_put p n ps d ts cs is none fine e = rw (is, none) (closed n ps d cs fine e)
 
@@ -125,13 +126,13 @@ NoMore place.Turned ps ts = ⊥
 -- what holds before the turns
 pub record Front (r : Read) : Type 0 where
   pub no_more : NoMore r.place r.programs r.starts
-  pub said : All IsSaid r.draft.said
+  pub said : All InRange r.draft.said
   pub labels : All (λ (l : Label). l.at ≤ length r.draft.said) r.draft.labels
   pub no_lines : r.turn_lines ≡ 0
   pub no_turns : r.turns ≡ []
 
 pub front_start : Front nothing_read
-front_start = record { no_more = (refl, refl); said = All-nil IsSaid; labels = All-nil (λ (l : Label). l.at ≤ 0); no_lines = refl; no_turns = refl }
+front_start = record { no_more = (refl, refl); said = All-nil InRange; labels = All-nil (λ (l : Label). l.at ≤ 0); no_lines = refl; no_turns = refl }
 
 -- a line before the turns adds its words
 pub record Adds (r : Read) (i : Item) : Type 0 where
@@ -222,7 +223,7 @@ adds r ws (item.Frames n) other f s =
 adds r ws (item.Program name) other f s =
     let none : r.starts ≡ [] = program_only r.place (λ p. NoMore p r.programs r.starts → r.starts ≡ []) s.place (λ h. h.1) (λ h. h) f.no_more in
     record {
-      front = record { no_more = none; said = All-nil IsSaid; labels = All-nil (λ (l : Label). l.at ≤ 0); no_lines = f.no_lines; no_turns = f.no_turns };
+      front = record { no_more = none; said = All-nil InRange; labels = All-nil (λ (l : Label). l.at ≤ 0); no_lines = f.no_lines; no_turns = f.no_turns };
       adds = program_added r.place r.frames r.programs r.draft r.starts name (program_only r.place IsOpen s.place (λ n d. (refl, refl)) (λ n d. (refl, refl))) none;
     }
 adds r ws (item.Command c) other f s =
@@ -230,7 +231,7 @@ adds r ws (item.Command c) other f s =
     record {
       front = record {
         no_more = f.no_more;
-        said = All-push IsSaid r.draft.said c f.said s.said;
+        said = All-push InRange r.draft.said c f.said s.said;
         labels = λ k d lt. omega (arith, longer r c, f.labels k d lt);
         no_lines = f.no_lines;
         no_turns = f.no_turns;
@@ -247,7 +248,7 @@ adds r ws (item.Label name) other f s =
 adds r ws (item.End cs) other f s =
     let in_it = in_program r f s.place in
     record {
-      front = record { no_more = in_it.1; said = All-nil IsSaid; labels = All-nil (λ (l : Label). l.at ≤ 0); no_lines = f.no_lines; no_turns = f.no_turns };
+      front = record { no_more = in_it.1; said = All-nil InRange; labels = All-nil (λ (l : Label). l.at ≤ 0); no_lines = f.no_lines; no_turns = f.no_turns };
       adds = end_put r.place r.frames r.programs r.draft r.starts cs in_it.0 in_it.1 f.said s.said;
     }
 adds r ws (item.Start t) other f s =

@@ -12,13 +12,13 @@ use Rattle.neph_base.specs.declared.reply.Actor.{Actor}
 use Rattle.neph_model.specs.declared.script.Script.{Script}
 use Rattle.neph_model.specs.Words.{spaced}
 use Rattle.neph_script.specs.State.{Read, script_read}
-use Rattle.neph_script.specs.declared.why.Why.{Why}
-use Rattle.neph_script.specs.declared.why.Why.TheVariants as why
+use Rattle.neph_command.specs.declared.why.Why.{Why}
+use Rattle.neph_command.specs.declared.why.Why.TheVariants as why
 use Rattle.neph_script.specs.declared.why.BadScript.{BadScript}
 use Rattle.neph_script.specs.Spelling.{actor_word, turns_words, IsActor}
 use Rattle.neph_script.specs.Text.{lines_text}
 use Rattle.neph_script.specs.Grammar.{words, lines, is_text, is_printed, is_skipped, with_line, with_words, may_end, ended, read_on, read_lines}
-use Rattle.neph_script.proofs.Inverse.{bind_ok, same_ok}
+use Rattle.neph_command.proofs.Inverse.{bind_ok, same_ok}
 use Rattle.neph_script.proofs.Cuts.{line_more}
 use Rattle.neph_script.proofs.Printed.{spaced_actors, joined}
 use Rattle.neph_script.proofs.Turned.{run, is_visible, IsShort, short_actor, IsGroup}

@@ -1,13 +1,8 @@
-pub mod Numerals
-pub mod Hex
-pub mod Ranges
 pub mod Places
-pub mod Onto
 pub mod Settled
 pub mod Cuts
 pub mod Inverse
-pub mod WordLaws
-pub mod CommandLaws
+pub mod ActorLaws
 pub mod LineLaws
 pub mod Fitting
 pub mod Printed

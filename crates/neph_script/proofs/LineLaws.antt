@@ -12,11 +12,12 @@ use Rattle.neph_model.specs.declared.script.Start.{Start}
 use Rattle.neph_model.specs.WellFormed.{frames_of_starts}
 use Rattle.neph_script.specs.declared.form.Form.{Form}
 use Rattle.neph_script.specs.declared.form.Form.TheVariants as form
-use Rattle.neph_script.specs.declared.form.Verb.{Verb}
+use Rattle.neph_command.specs.declared.verb.Verb.{Verb}
 use Rattle.neph_script.specs.declared.state.Item.{Item}
 use Rattle.neph_script.specs.declared.state.Item.TheVariants as item
-use Rattle.neph_script.specs.declared.why.Why.TheVariants as why
-use Rattle.neph_script.specs.Forms.{equals, verbs, verb_of, others, form_of, is_later}
+use Rattle.neph_command.specs.declared.why.Why.TheVariants as why
+use Rattle.neph_script.specs.Forms.{others, form_of}
+use Rattle.neph_script.specs.Actors.{actor_named}
 use Rattle.std.specs.Prelude.{if◌then◌else◌, ◌&&◌}
 use Rattle.std.specs.Option.{ok_or}
 use Rattle.std.specs.Prelude.{◌||◌, nat_le}
@@ -24,21 +25,23 @@ use Rattle.std.specs.Prelude.{fold}
 use Rattle.std.proofs.lemmas.List.Quantifiers.{position-Some}
 use Rattle.std.proofs.lemmas.Option.{slice_get-get_or}
 use Rattle.neph_script.specs.State.{Read}
-use Rattle.neph_script.specs.Words.{number, name, is_name, actor_named}
-use Rattle.neph_script.specs.Commands.{command_said}
-use Rattle.neph_script.specs.Lines.{may_stand, is_many, are_whole, word_count, item_of, judged, judged_form, new_name, unless_given, label_place, program_place, program_named, settled, actors, domain_line, started, fitting}
+use Rattle.neph_command.specs.Words.{equals, number, name, is_name}
+use Rattle.neph_command.specs.Verbs.{keyword, verb_of}
+use Rattle.neph_command.specs.Commands.{command_said}
+use Rattle.neph_script.specs.Lines.{may_stand, is_many, are_whole, word_count, item_of, judged, judged_as, new_name, unless_given, label_place, program_place, program_named, settled, actors, domain_line, started, fitting}
 use Rattle.neph_script.specs.Spelling.{actor_word, IsActor, name_of_program, start_words, item_words, form_said, CanStart, CanBeSaid, Stands}
-use Rattle.neph_script.proofs.Inverse.{bind_ok, some_from_ok, let_on, let_in, same_ok}
-use Rattle.neph_script.proofs.WordLaws.{number_read, name_read, actor_read}
-use Rattle.neph_script.proofs.Ranges.{equal_from}
-use Rattle.neph_script.proofs.CommandLaws.{verb_word, command_says}
+use Rattle.neph_command.proofs.Inverse.{bind_ok, some_from_ok, let_on, let_in, same_ok}
+use Rattle.neph_command.proofs.WordLaws.{number_read, name_read}
+use Rattle.neph_script.proofs.ActorLaws.{actor_read}
+use Rattle.neph_command.proofs.Ranges.{equal_from}
+use Rattle.neph_command.proofs.CommandLaws.{verb_found, command_says}
 
 -- the first word of a form
 abbrev pub form_word : Form → List ℕ
 form_word form.Heading = codes "nephele"
 form_word form.Frames = codes "frames"
 form_word form.Program = codes "program"
-form_word (form.Command v) = verb_word v
+form_word (form.Command v) = keyword v
 form_word form.Label = codes "label"
 form_word form.End = codes "end"
 form_word form.Domain = codes "domain"
@@ -59,15 +62,11 @@ found_in : {X : Type 0} (f : X → List ℕ) (word : List ℕ) (table : List (Li
 found_in f word [] x same e = absurd cc
 found_in f word (t ∷ ts) x same e = found_first f word t.0 t.1 x (lookup (equals word) ts) (equals word t.0) (head_same _ _ _ _ same) refl e (λ more. found_in f word ts x (tail_same _ _ _ _ same) more)
 
-pub verb_found : (word : List ℕ) (v : Verb) → verb_of word ≡ Some v → word ≡ verb_word v
-verb_found word v e = found_in verb_word word verbs v refl e
-
 pub form_found : (word : List ℕ) (x : Form) → form_of word ≡ Some x → word ≡ form_word x
-form_found word x e = by (lookup (equals word) others) refl (verb_of word) refl e where
-  by : (o : Option Form) → lookup (equals word) others ≡ o → (p : Option Verb) → verb_of word ≡ p → option_or o (option_map form.Command p) ≡ Some x → word ≡ form_word x
-  by (Some y) is p also e = found_in form_word word others x refl (is ∙ e)
-  by None is (Some v) also e = let same : form.Command v ≡ x = cc in verb_found word v also ∙ ap form_word same
-  by None is None also e = absurd cc
+form_found word x e = by (verb_of word) refl e where
+  by : (p : Option Verb) → verb_of word ≡ p → option_or (option_map form.Command p) (lookup (equals word) others) ≡ Some x → word ≡ form_word x
+  by (Some v) is e = let same : form.Command v ≡ x = cc in verb_found word v is ∙ ap form_word same
+  by None is e = found_in form_word word others x refl e
 
 -- words of actors
 pub record SpelledActors (words : List (List ℕ)) (more : List Actor) : Type 0 where
@@ -239,14 +238,12 @@ item_stands r _ _ i l e = absurd cc
 
 pub judged_stands : (r : Read) (ws : List (List ℕ)) (i : Item) → judged r ws ≡ Ok i → Stands r ws i
 judged_stands r [] i e = absurd cc
-judged_stands r (first ∷ ws) i e =
-    let one = let_on (is_later first) why.Unbuilt (judged_form r (form_of first) ws) i e in
-    by (form_of first) refl one.1 where
-      by : (o : Option Form) → form_of first ≡ o → judged_form r o ws ≡ Ok i → Stands r (first ∷ ws) i
-      by None is e = absurd cc
-      by (Some f) is e =
-          let may = let_in (may_stand f r.place) why.Word (if is_many r f ws then Err why.Many else (if are_whole ws then item_of r f ws else Err why.Form)) i e in
-          let few = let_on (is_many r f ws) why.Many (if are_whole ws then item_of r f ws else Err why.Form) i may.1 in
-          let whole = let_in (are_whole ws) why.Form (item_of r f ws) i few.1 in
-          let l : Line r f ws = record { may = may.0; few = few.0; whole = whole.0 } in
-          subst (λ (w : List ℕ). Stands r (w ∷ ws) i) (sym (form_found first f is)) (item_stands r f ws i l whole.1)
+judged_stands r (first ∷ ws) i e = by (form_of first) refl e where
+  by : (o : Option Form) → form_of first ≡ o → judged_as r first o ws ≡ Ok i → Stands r (first ∷ ws) i
+  by None is e = absurd cc
+  by (Some f) is e =
+      let may = let_in (may_stand f r.place) why.Word (if is_many r f ws then Err why.Many else (if are_whole ws then item_of r f ws else Err why.Form)) i e in
+      let few = let_on (is_many r f ws) why.Many (if are_whole ws then item_of r f ws else Err why.Form) i may.1 in
+      let whole = let_in (are_whole ws) why.Form (item_of r f ws) i few.1 in
+      let l : Line r f ws = record { may = may.0; few = few.0; whole = whole.0 } in
+      subst (λ (w : List ℕ). Stands r (w ∷ ws) i) (sym (form_found first f is)) (item_stands r f ws i l whole.1)

@@ -16,8 +16,8 @@ use Rattle.std.specs.Map.{lookup}
 use Rattle.std.specs.Global.{Vec}
 use Rattle.std.specs.BTreeMap.{is_at, insert_entry}
 use Rattle.std.proofs.lemmas.Bool.{false≢true}
-use Rattle.neph_script.specs.Forms.{equals}
-use Rattle.neph_script.proofs.Ranges.{equal_from, equal_to}
+use Rattle.neph_command.specs.Words.{equals}
+use Rattle.neph_command.proofs.Ranges.{equal_from, equal_to}
 
 abbrev pub cmp : Vec ℕ → Vec ℕ → Ordering
 cmp a b = slice_cmp nat_cmp a.items b.items

@@ -2,8 +2,8 @@
 use Rattle.std.proofs.Common.{◌≡◌, ℕ, ◌+◌, Bool, true, false, cond, List, [], ◌∷◌, ◌++◌, length, Result, Ok, Err, refl, sym, ap, subst, ◌∙◌, arith}
 use Rattle.neph_model.specs.declared.script.Script.{Script}
 use Rattle.neph_script.specs.declared.state.Item.{Item}
-use Rattle.neph_script.specs.declared.why.Why.{Why}
-use Rattle.neph_script.specs.declared.why.Why.TheVariants as why
+use Rattle.neph_command.specs.declared.why.Why.{Why}
+use Rattle.neph_command.specs.declared.why.Why.TheVariants as why
 use Rattle.neph_script.specs.declared.why.BadScript.{BadScript}
 use Rattle.neph_script.specs.declared.why.ParseEnd.{ParseEnd}
 use Rattle.std.specs.Prelude.{IfOk}
@@ -11,7 +11,7 @@ use Rattle.neph_script.specs.Outcomes.{Reads}
 use Rattle.neph_script.specs.State.{Read, nothing_read, script_read}
 use Rattle.neph_script.specs.Grammar.{words, lines, is_text, is_skipped, may_end, with_line, ended, read_on, read_lines, read_script}
 use Rattle.neph_script.specs.Spells.{IsNext, Takes, Leads, Spells, CannotStand, IsFault}
-use Rattle.neph_script.specs.Words.{◌>>=◌}
+use Rattle.neph_command.specs.Words.{◌>>=◌}
 use Rattle.neph_script.specs.Lines.{taken}
 use Rattle.neph_script.specs.Grammar.{with_words}
 use Rattle.neph_script.specs.Spells.{IsLawful}

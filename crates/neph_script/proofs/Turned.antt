@@ -1,7 +1,7 @@
 -- Lines of turns, in groups of any size.
 use Rattle.std.proofs.Common.{◌≡◌, ◌≢◌, ℕ, zero, suc, ◌+◌, ◌*◌, ◌/◌, ◌%◌, ◌<◌, ◌≤◌, Bool, true, false, cond, List, [], ◌∷◌, ◌++◌, length, take, drop, get_or, map, Some, Result, Ok, Err, All, refl, sym, ap, subst, ◌∙◌, arith, append_assoc}
 use Rattle.std.specs.List.{list_all}
-use Rattle.neph_script.proofs.Inverse.{bind_ok}
+use Rattle.neph_command.proofs.Inverse.{bind_ok}
 use Rattle.std.specs.Prelude.{◌&&◌, codes, nat_lt, nat_le, ◌||◌, slice_index}
 use Rattle.std.specs.Fmt.{decimal}
 use Rattle.std.proofs.lemmas.Fmt.{decimal_digit, decimal_step}
@@ -14,16 +14,16 @@ use Rattle.neph_base.specs.declared.reply.Actor.TheVariants as actor
 use Rattle.neph_script.specs.declared.form.Form.TheVariants as form
 use Rattle.neph_script.specs.declared.state.Item.{Item}
 use Rattle.neph_script.specs.declared.state.Item.TheVariants as item
-use Rattle.neph_script.specs.declared.why.Why.{Why}
-use Rattle.neph_script.specs.declared.why.Why.TheVariants as why
+use Rattle.neph_command.specs.declared.why.Why.{Why}
+use Rattle.neph_command.specs.declared.why.Why.TheVariants as why
 use Rattle.neph_script.specs.State.{Read, script_read}
-use Rattle.neph_script.specs.Forms.{equals}
-use Rattle.neph_script.specs.Words.{◌>>=◌, actor_named, number_in, is_digit}
+use Rattle.neph_command.specs.Words.{◌>>=◌, equals, number_in, is_digit}
+use Rattle.neph_script.specs.Actors.{actor_named}
 use Rattle.neph_script.specs.Lines.{taken, judged, may_stand, are_whole, word_count, actors}
 use Rattle.neph_script.specs.Spelling.{actor_word, turns_words, IsActor}
 use Rattle.neph_script.specs.Text.{groups}
 use Rattle.neph_script.specs.Grammar.{with_words, may_end}
-use Rattle.neph_script.proofs.Ranges.{equal_from, number_only}
+use Rattle.neph_command.proofs.Ranges.{equal_from, number_only}
 use Rattle.neph_script.proofs.LineLaws.{all_words}
 
 -- words read one after another

@@ -2,13 +2,13 @@
 use Rattle.std.specs.Prelude.{ℕ, ◌+◌, Bool, true, false, ◌&&◌, ◌||◌, ◌==◌, nat_le, if◌then◌else◌, List, [], ◌∷◌, length, Result, Ok, Err, slice_index}
 use Rattle.std.specs.List.{slice_split, list_all}
 use Rattle.neph_model.specs.declared.script.Script.{Script}
-use Rattle.neph_script.specs.Words.{◌>>=◌}
+use Rattle.neph_command.specs.Words.{◌>>=◌}
 use Rattle.neph_script.specs.Lines.{judged, taken}
 use Rattle.neph_script.specs.State.{Read, nothing_read, script_read}
 use Rattle.neph_script.specs.declared.state.Place.{Place}
 use Rattle.neph_script.specs.declared.state.Place.TheVariants as place
-use Rattle.neph_script.specs.declared.why.Why.{Why}
-use Rattle.neph_script.specs.declared.why.Why.TheVariants as why
+use Rattle.neph_command.specs.declared.why.Why.{Why}
+use Rattle.neph_command.specs.declared.why.Why.TheVariants as why
 use Rattle.neph_script.specs.declared.why.BadScript.{BadScript}
 
 -- what stands between the places of this byte

@@ -2,7 +2,7 @@
 use Rattle.std.specs.Prelude.{ℕ, Bool, if◌then◌else◌, List, Option, None, Some}
 use Rattle.std.specs.Map.{lookup}
 use Rattle.std.specs.Global.{Vec}
-use Rattle.neph_script.specs.Forms.{equals}
+use Rattle.neph_command.specs.Words.{equals}
 use Rattle.neph_script.specs.declared.index.Index.{Index}
 
 -- the place of a name

@@ -1,9 +1,7 @@
 pub mod Forms
 pub mod Kinds
-pub mod Words
-pub mod Plain
+pub mod Actors
 pub mod Outcomes
-pub mod Commands
 pub mod Index
 pub mod State
 pub mod Lines

@@ -10,20 +10,21 @@ use Rattle.neph_model.specs.declared.script.Label.{Label}
 use Rattle.neph_model.specs.declared.script.Start.{Start}
 use Rattle.neph_model.specs.Programs.{label_line}
 use Rattle.neph_model.specs.WellFormed.{frames_of_starts}
-use Rattle.neph_script.specs.Forms.{equals, form_of, is_later}
-use Rattle.neph_script.specs.Words.{◌>>=◌, number, name, actor_named}
-use Rattle.neph_script.specs.Commands.{command_said}
+use Rattle.neph_command.specs.Words.{◌>>=◌, equals, number, name}
+use Rattle.neph_script.specs.Forms.{form_of, is_later}
+use Rattle.neph_script.specs.Actors.{actor_named}
+use Rattle.neph_command.specs.Commands.{command_said}
 use Rattle.neph_script.specs.State.{Read, no_draft}
-use Rattle.neph_script.specs.declared.command.Said.{Said}
-use Rattle.neph_script.specs.declared.command.Said.TheVariants as said
+use Rattle.neph_command.specs.declared.command.Said.{Said}
+use Rattle.neph_command.specs.declared.command.Said.TheVariants as said
 use Rattle.neph_script.specs.declared.form.Form.{Form}
 use Rattle.neph_script.specs.declared.form.Form.TheVariants as form
 use Rattle.neph_script.specs.declared.state.Place.{Place}
 use Rattle.neph_script.specs.declared.state.Place.TheVariants as place
 use Rattle.neph_script.specs.declared.state.Item.{Item}
 use Rattle.neph_script.specs.declared.state.Item.TheVariants as item
-use Rattle.neph_script.specs.declared.why.Why.{Why}
-use Rattle.neph_script.specs.declared.why.Why.TheVariants as why
+use Rattle.neph_command.specs.declared.why.Why.{Why}
+use Rattle.neph_command.specs.declared.why.Why.TheVariants as why
 
 -- Which forms may stand at a place: the heading, the frames, at least one program, at least one
 -- domain line, and then turns. Commands and labels stand in a program.
@@ -186,18 +187,24 @@ item_of r (form.Command verb) words = command_line (command_said verb words)
 item_of r _ _ = Err why.Form
 
 -- A line of a form: it may stand there, it isn't one too many, and its spaces are single.
-abbrev pub judged_form : Read → Option Form → List (List ℕ) → Result Item Why
-judged_form r None words = Err why.Word
-judged_form r (Some form) words =
+abbrev pub judged_form : Read → Form → List (List ℕ) → Result Item Why
+judged_form r form words =
     if may_stand form r.place then (if is_many r form words then Err why.Many
     else (if are_whole words then item_of r form words else Err why.Form))
     else Err why.Word
 
--- A line of words. What a form that isn't built yet begins is told first.
+-- what is wrong with a first word that begins no form
+abbrev pub unknown : List ℕ → Why
+unknown first = if is_later first then why.Unbuilt else why.Word
+
+abbrev pub judged_as : Read → List ℕ → Option Form → List (List ℕ) → Result Item Why
+judged_as r first None words = Err (unknown first)
+judged_as r first (Some form) words = judged_form r form words
+
+-- A line of words, by the form that its first word begins.
 abbrev pub judged : Read → List (List ℕ) → Result Item Why
 judged r [] = Err why.Word
-judged r (first ∷ words) = if is_later first then Err why.Unbuilt
-    else judged_form r (form_of first) words
+judged r (first ∷ words) = judged_as r first (form_of first) words
 
 -- what was read, with one more line
 abbrev pub taken : Read → Item → Read

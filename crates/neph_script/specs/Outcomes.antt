@@ -1,6 +1,6 @@
 -- What a function that may lack memory answers, by what it should answer.
 use Rattle.std.specs.Prelude.{◌≡◌, ⊤, Result, Ok, Err}
-use Rattle.neph_script.specs.declared.why.Why.{Why}
+use Rattle.neph_command.specs.declared.why.Why.{Why}
 use Rattle.neph_model.specs.declared.script.Script.{Script}
 use Rattle.neph_script.specs.declared.why.BadScript.{BadScript}
 use Rattle.neph_script.specs.declared.why.ParseEnd.{ParseEnd}

@@ -9,7 +9,7 @@ use Rattle.neph_script.specs.declared.state.Place.{Place}
 use Rattle.neph_script.specs.declared.state.Place.TheVariants as place
 use Rattle.neph_script.specs.declared.state.Item.{Item}
 use Rattle.neph_script.specs.declared.state.Item.TheVariants as item
-use Rattle.neph_script.specs.declared.why.Why.{Why}
+use Rattle.neph_command.specs.declared.why.Why.{Why}
 use Rattle.neph_script.specs.declared.why.LineEnd.{LineEnd}
 use Rattle.neph_script.specs.declared.state.Draft.{Draft}
 use Rattle.neph_script.specs.declared.state.Reader.{Reader}

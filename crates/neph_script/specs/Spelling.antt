@@ -1,23 +1,17 @@
 -- The words of the lines of a script, and what may be said by a line.
-use Rattle.std.specs.Prelude.{◌≡◌, ℕ, ◌+◌, ◌^◌, ◌%◌, ◌<◌, ◌≤◌, true, false, ⊤, List, [], ◌∷◌, ◌++◌, map, length, drop, codes, Option, None, Some, Ok, All, slice_get}
+use Rattle.std.specs.Prelude.{◌≡◌, ℕ, ◌<◌, ◌≤◌, true, false, ⊤, List, [], ◌∷◌, ◌++◌, map, length, drop, codes, Option, None, Some, Ok, All, slice_get}
 use Rattle.std.specs.Fmt.{decimal}
-use Rattle.neph_base.specs.declared.command.Command.{Command}
-use Rattle.neph_base.specs.declared.command.Command.TheVariants as command
 use Rattle.neph_base.specs.declared.reply.Actor.{Actor}
 use Rattle.neph_base.specs.declared.reply.Actor.TheVariants as actor
 use Rattle.neph_model.specs.declared.script.Program.{Program}
 use Rattle.neph_model.specs.declared.script.Start.{Start}
 use Rattle.neph_model.specs.WellFormed.{frames_of_starts}
-use Rattle.neph_model.specs.Words.{command_words}
-use Rattle.neph_script.specs.Words.{is_name}
+use Rattle.neph_command.specs.Commands.{said_words, verb_said, InRange}
+use Rattle.neph_command.specs.Words.{is_name}
 use Rattle.neph_script.specs.State.{Read}
 use Rattle.neph_script.specs.Lines.{may_stand, is_many, settled, label_place, program_place}
-use Rattle.neph_script.specs.declared.command.Said.{Said}
-use Rattle.neph_script.specs.declared.command.Said.TheVariants as said
 use Rattle.neph_script.specs.declared.form.Form.{Form}
 use Rattle.neph_script.specs.declared.form.Form.TheVariants as form
-use Rattle.neph_script.specs.declared.form.Verb.{Verb}
-use Rattle.neph_script.specs.declared.form.Verb.TheVariants as verb
 use Rattle.neph_script.specs.declared.state.Item.{Item}
 use Rattle.neph_script.specs.declared.state.Item.TheVariants as item
 
@@ -27,13 +21,6 @@ actor_word actor.Daemon = codes "daemon"
 actor_word actor.Console = codes "console"
 actor_word actor.Net = codes "net"
 actor_word actor.P9 = codes "p9"
-
--- the words of a command as its line says it
-abbrev pub said_words : Said → List (List ℕ)
-said_words (said.Whole c) = command_words [] c
-said_words (said.Jump target) = codes "jump" ∷ target ∷ []
-said_words (said.JChild target) = codes "jchild" ∷ target ∷ []
-said_words (said.JFail target) = codes "jfail" ∷ target ∷ []
 
 -- the name of a program that there may be
 abbrev pub name_of_program : Option Program → List ℕ
@@ -60,25 +47,6 @@ item_words programs (item.End cs) = codes "end" ∷ []
 item_words programs (item.Start t) = start_words programs t
 item_words programs (item.Turns more) = turns_words more
 
--- the verb of a command that isn't a jump to a place
-abbrev pub verb_whole : Command → Verb
-verb_whole (command.W addr bytes) = verb.W
-verb_whole (command.R addr len) = verb.R
-verb_whole (command.Map vpn pfn mode) = verb.Map
-verb_whole (command.Unmap vpn) = verb.Unmap
-verb_whole (command.Jump label) = verb.Jump
-verb_whole (command.JChild label) = verb.JChild
-verb_whole (command.JFail label) = verb.JFail
-verb_whole command.Exit = verb.Exit
-verb_whole command.Free = verb.Free
-verb_whole command.Clone = verb.Clone
-
-abbrev pub verb_said : Said → Verb
-verb_said (said.Whole c) = verb_whole c
-verb_said (said.Jump target) = verb.Jump
-verb_said (said.JChild target) = verb.JChild
-verb_said (said.JFail target) = verb.JFail
-
 -- the form of the line that says something
 abbrev pub form_said : Item → Form
 form_said item.Heading = form.Heading
@@ -89,26 +57,6 @@ form_said (item.Label name) = form.Label
 form_said (item.End cs) = form.End
 form_said (item.Start t) = form.Domain
 form_said (item.Turns more) = form.Turns
-
--- the numbers and bytes of a command are in their ranges; a jump is said by its label's name
-abbrev pub InRange : Command → Type 0
-InRange (command.W addr bytes) = (addr < 2 ^ 30) × (0 < length bytes) × (length bytes ≤ 64)
-    × All (λ b. b < 256) bytes × (addr % 4096 + length bytes ≤ 4096)
-InRange (command.R addr len) = (addr < 2 ^ 30) × (1 ≤ len) × (len ≤ 64) × (addr % 4096 + len ≤ 4096)
-InRange (command.Map vpn pfn mode) = (vpn < 262144) × (pfn < 1024)
-InRange (command.Unmap vpn) = vpn < 262144
-InRange (command.Jump label) = ⊥
-InRange (command.JChild label) = ⊥
-InRange (command.JFail label) = ⊥
-InRange command.Exit = ⊤
-InRange command.Free = ⊤
-InRange command.Clone = ⊤
-
-abbrev pub IsSaid : Said → Type 0
-IsSaid (said.Whole c) = InRange c
-IsSaid (said.Jump target) = is_name target ≡ true
-IsSaid (said.JChild target) = is_name target ≡ true
-IsSaid (said.JFail target) = is_name target ≡ true
 
 -- a domain has a turn only under the numbers 1 to 63
 abbrev pub IsActor : Actor → Type 0
@@ -132,7 +80,7 @@ abbrev pub CanBeSaid : Read → Item → Type 0
 CanBeSaid r item.Heading = ⊤
 CanBeSaid r (item.Frames n) = (16 ≤ n) × (n ≤ 16384)
 CanBeSaid r (item.Program name) = (is_name name ≡ true) × (program_place r.programs name ≡ None)
-CanBeSaid r (item.Command s) = IsSaid s
+CanBeSaid r (item.Command s) = InRange s
 CanBeSaid r (item.Label name) = (is_name name ≡ true) × (label_place r.draft.labels name ≡ None)
 CanBeSaid r (item.End cs) = settled r.draft.labels 0 r.draft.said ≡ Ok cs
 CanBeSaid r (item.Start t) = CanStart r t

@@ -6,8 +6,8 @@ use Rattle.neph_script.specs.Lines.{taken}
 use Rattle.neph_script.specs.Spelling.{Stands}
 use Rattle.neph_script.specs.Grammar.{words, lines, is_text, is_skipped, may_end, with_line}
 use Rattle.neph_script.specs.declared.state.Item.{Item}
-use Rattle.neph_script.specs.declared.why.Why.{Why}
-use Rattle.neph_script.specs.declared.why.Why.TheVariants as why
+use Rattle.neph_command.specs.declared.why.Why.{Why}
+use Rattle.neph_command.specs.declared.why.Why.TheVariants as why
 use Rattle.neph_script.specs.declared.why.BadScript.{BadScript}
 
 -- a line that is skipped changes nothing; any other says something that may be said there

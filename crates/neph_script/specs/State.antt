@@ -5,7 +5,7 @@ use Rattle.neph_model.specs.declared.script.Script.{Script}
 use Rattle.neph_model.specs.declared.script.Program.{Program}
 use Rattle.neph_model.specs.declared.script.Label.{Label}
 use Rattle.neph_model.specs.declared.script.Start.{Start}
-use Rattle.neph_script.specs.declared.command.Said.{Said}
+use Rattle.neph_command.specs.declared.command.Said.{Said}
 use Rattle.neph_script.specs.declared.state.Place.{Place}
 use Rattle.neph_script.specs.declared.state.Place.TheVariants as place
 

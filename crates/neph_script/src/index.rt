@@ -1,6 +1,6 @@
 // Places by name.
 ghost use Rattle.std.specs.Prelude.{◌≡◌, ℕ, List, None, Some, if◌then◌else◌, OnOk};
-ghost use Rattle.neph_script.specs.Forms.{equals};
+ghost use Rattle.neph_command.specs.Words.{equals};
 ghost use Rattle.neph_script.specs.Index.{place_in, place_after};
 
 use neph_base::NoMemory;

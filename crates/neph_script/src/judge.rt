@@ -1,17 +1,17 @@
 // What a line says at its place, or why it can't stand there.
-ghost use Rattle.std.specs.Prelude.{◌≡◌, ◌≤◌, ◌∷◌, ℕ, List, map, codes, Some};
+ghost use Rattle.std.specs.Prelude.{◌≡◌, ◌≤◌, ◌∷◌, ℕ, List, map, codes};
 ghost use Rattle.std.specs.Option.{ok_or};
-ghost use Rattle.neph_script.specs.Lines.{may_stand, fitting, word_count, is_many, are_whole, program_named, started, domain_line, heading, frames_line, program_line, label_name_line, end_line, turns_line, actors, item_of, judged_form, judged};
+ghost use Rattle.neph_script.specs.Lines.{may_stand, fitting, word_count, is_many, are_whole, program_named, started, domain_line, heading, frames_line, program_line, label_name_line, end_line, turns_line, actors, item_of, unknown, judged_form, judged};
 ghost use Rattle.neph_script.specs.Outcomes.{Gives, Shows};
 ghost use Rattle.neph_script.specs.Seen.{seen, IsSound};
 
-use crate::command::{command_line, name};
 use crate::form::{Form, begun_by, is_later};
 use crate::frames::{frames_of_start, frames_of_starts};
 use crate::state::{Item, Place, Reader};
-use crate::why::{LineEnd, Why};
-use crate::word::{actor, is_name, number};
+use crate::why::LineEnd;
+use crate::word::{actor, name};
 use neph_base::Actor;
+use neph_command::{Why, command_line, is_name, number};
 use neph_model::{Actors, Commands, Start};
 use std::alloc::Global;
 
@@ -24,18 +24,15 @@ impl Reader {
         let [first, words @ ..] = words else {
             return Err(LineEnd::Bad(Why::Word));
         };
-        if is_later(first) {
-            return Err(LineEnd::Bad(Why::Unbuilt));
-        }
         let Some(form) = begun_by(first) else {
-            return Err(LineEnd::Bad(Why::Word));
+            return Err(LineEnd::Bad(unknown(first)));
         };
         self.judge_form(alloc, form, words)
     }
 
     fn judge_form(&self, alloc: Global, form: Form, words: &[&[u8]]) -> Result<Item, LineEnd>
         requires { IsSound self.now }
-        ensures { Gives result (judged_form (seen self.now) (Some form)
+        ensures { Gives result (judged_form (seen self.now) form
             (map (λ w. w.now) words.now)) }
     {
         if !may_stand(form, self.place) {
@@ -77,7 +74,7 @@ impl Reader {
                 Ok(self.domain(program, pages, limit, net)?)
             }
             (Form::Turns, [_, ..]) => turns(alloc, words),
-            (Form::Command(verb), _) => Ok(Item::Command(command_line(alloc, verb, words)?)),
+            (Form::Command(verb), _) => Ok(Item::Command(command_line(verb, words)?)),
             _ => Err(LineEnd::Bad(Why::Form)),
         }
     }
@@ -151,6 +148,17 @@ impl Reader {
             return Err(Why::Frames);
         }
         Ok(Item::Start(start))
+    }
+}
+
+// What is wrong with a first word that begins no form.
+fn unknown(first: &[u8]) -> Why
+    ensures { result ≡ unknown first.now }
+{
+    if is_later(first) {
+        Why::Unbuilt
+    } else {
+        Why::Word
     }
 }
 

@@ -1,7 +1,6 @@
 //! The grammar of scripts: reads them, and prints them again.
 #![tactic(auto)]
 
-mod command;
 mod form;
 mod frames;
 mod index;
@@ -16,7 +15,8 @@ mod tests;
 mod why;
 mod word;
 
+pub use neph_command::Why;
 pub use neph_model::Script;
 pub use printing::print_script;
 pub use reading::parse;
-pub use why::{BadScript, ParseEnd, Why};
+pub use why::{BadScript, ParseEnd};

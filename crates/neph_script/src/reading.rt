@@ -9,8 +9,10 @@ ghost use Rattle.neph_model.specs.declared.script.Script.{Script};
 ghost use Rattle.neph_script.specs.Seen.{seen, IsSound, Moves};
 
 use crate::state::{Place, Reader};
-use crate::why::{BadScript, LineEnd, ParseEnd, Why};
+use crate::why::{BadScript, LineEnd, ParseEnd};
+use memchr::memchr;
 use neph_base::NoMemory;
+use neph_command::Why;
 use neph_model::{Actors, Programs, Script, Starts};
 use std::alloc::Global;
 
@@ -69,7 +71,7 @@ fn halves(text: &[u8], mark: u8) -> Option<(&[u8], &[u8])>
     ensures none { IfNone result (parts_at mark text.now ≡ text.now ∷ []) }
     ensures shorter { IfSome result (λ cut. length cut.1.now < length text.now) }
 {
-    match text.iter().position(|b| *b == mark) {
+    match memchr(mark, text) {
         None => None,
         Some(at) => Some((&text[..at], &text[at + 1..])),
     }
@@ -133,12 +135,12 @@ fn is_text(line: &[u8]) -> bool
 fn are_printed(line: &[u8]) -> bool
     ensures { result ≡ list_all is_printed line.now }
 {
+    // With no way out before the end, many bytes are judged at a time.
+    let mut all = true;
     for b in line {
-        if *b < 32 || *b > 126 {
-            return false;
-        }
+        all &= 32 <= *b && *b <= 126;
     }
-    true
+    all
 }
 
 fn is_skipped(line: &[u8]) -> bool

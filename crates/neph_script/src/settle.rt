@@ -4,10 +4,10 @@ ghost use Rattle.neph_script.specs.Lines.{ahead, label_place, settled, settled_o
 ghost use Rattle.neph_script.specs.Outcomes.{Shows};
 ghost use Rattle.neph_script.specs.Seen.{IsDraft};
 
-use crate::command::Said;
 use crate::state::Draft;
-use crate::why::{LineEnd, Why};
+use crate::why::LineEnd;
 use neph_base::Command;
+use neph_command::{Said, Why};
 use std::alloc::Global;
 
 impl Draft {
@@ -34,13 +34,13 @@ impl Draft {
         match said {
             Said::Whole(command) => Ok(*command),
             Said::Jump(target) => Ok(Command::Jump {
-                label: self.ahead(line, target.items())?,
+                label: self.ahead(line, target.bytes())?,
             }),
             Said::JChild(target) => Ok(Command::JChild {
-                label: self.ahead(line, target.items())?,
+                label: self.ahead(line, target.bytes())?,
             }),
             Said::JFail(target) => Ok(Command::JFail {
-                label: self.ahead(line, target.items())?,
+                label: self.ahead(line, target.bytes())?,
             }),
         }
     }

@@ -6,9 +6,9 @@ ghost use Rattle.neph_script.specs.Lines.{taken};
 ghost use Rattle.neph_script.specs.Seen.{seen, seen_draft, IsSound, IsDraft, Fits};
 ghost use Rattle.neph_script.specs.declared.state.Item.TheVariants as item;
 
-use crate::command::Said;
 use crate::index::Index;
 use neph_base::{Actor, Name, NoMemory};
+use neph_command::Said;
 use neph_model::{Actors, Commands, Label, Labels, Program, Start};
 use std::alloc::Global;
 use std::mem;
@@ -96,7 +96,7 @@ impl Draft {
             ≡ record (seen_draft self.old) { said = self.old.said.items ++ said ∷ [] }) }
         ensures sound { OnOk result (IsDraft self.new) }
     {
-        self.said.push(said)?;
+        self.said.extend_from_slice(&[said])?;
         Ok(())
     }
 

@@ -5,5 +5,5 @@ use Rattle.neph_script.proofs.printing.put_group.Goals as goal
 
 pub loop-actor-init : goal.loop-actor-init
 loop-actor-init c =
-    ap (λ (xs : List ℕ). xs ++ spaced_actors c.args.actors.now) c.in_ok-put.ensures ∙ append_assoc c.args.out.now.items (codes "turns") (spaced_actors c.args.actors.now)
+    ap (λ (xs : List ℕ). xs ++ spaced_actors c.args.actors.now) c.in_ok-put_word.ensures ∙ append_assoc c.args.out.now.items (codes "turns") (spaced_actors c.args.actors.now)
     ∙ ap (λ (xs : List ℕ). c.args.out.now.items ++ xs) (sym (joined (codes "turns") c.args.actors.now))

@@ -1,0 +1,10 @@
+pub mod Inverse
+pub mod Ranges
+pub mod Numerals
+pub mod Hex
+pub mod WordLaws
+pub mod Onto
+pub mod Printed
+pub mod KindLaws
+pub mod WholeLaws
+pub mod CommandLaws

@@ -1,0 +1,6 @@
+pub mod Why
+pub mod Words
+pub mod Plain
+pub mod Verbs
+pub mod Kinds
+pub mod Commands

@@ -1,0 +1,44 @@
+-- The table of commands: the keyword of each, and what stands behind it.
+use Rattle.std.specs.Prelude.{ℕ, Bool, false, ◌==◌, List, [], ◌∷◌, codes, Option, find}
+use Rattle.neph_command.specs.Words.{equals}
+use Rattle.neph_command.specs.declared.operand.Kind.{Kind}
+use Rattle.neph_command.specs.declared.operand.Kind.TheVariants as kind
+use Rattle.neph_command.specs.declared.verb.Verb.{Verb}
+use Rattle.neph_command.specs.declared.verb.Verb.TheVariants as verb
+
+abbrev pub verbs : List Verb
+verbs = verb.W ∷ verb.R ∷ verb.Map ∷ verb.Unmap ∷ verb.Jump ∷ verb.JChild ∷ verb.JFail
+    ∷ verb.Exit ∷ verb.Free ∷ verb.Clone ∷ []
+
+abbrev pub keyword : Verb → List ℕ
+keyword verb.W = codes "w"
+keyword verb.R = codes "r"
+keyword verb.Map = codes "map"
+keyword verb.Unmap = codes "unmap"
+keyword verb.Jump = codes "jump"
+keyword verb.JChild = codes "jchild"
+keyword verb.JFail = codes "jfail"
+keyword verb.Exit = codes "exit"
+keyword verb.Free = codes "free"
+keyword verb.Clone = codes "clone"
+
+abbrev pub kinds_of : Verb → List Kind
+kinds_of verb.W = kind.Addr ∷ kind.Bytes ∷ []
+kinds_of verb.R = kind.Addr ∷ kind.Len ∷ []
+kinds_of verb.Map = kind.Vpn ∷ kind.Pfn ∷ kind.Mode ∷ []
+kinds_of verb.Unmap = kind.Vpn ∷ []
+kinds_of verb.Jump = kind.Label ∷ []
+kinds_of verb.JChild = kind.Label ∷ []
+kinds_of verb.JFail = kind.Label ∷ []
+kinds_of verb.Exit = []
+kinds_of verb.Free = []
+kinds_of verb.Clone = []
+
+-- the verb whose keyword a word is
+abbrev pub verb_of : List ℕ → Option Verb
+verb_of word = find (λ v. equals word (keyword v)) verbs
+
+-- A command with so many words behind its keyword isn't built yet: `clone` with a number.
+abbrev pub is_unbuilt : Verb → ℕ → Bool
+is_unbuilt verb.Clone n = n == 1
+is_unbuilt _ n = false

@@ -1,6 +1,0 @@
-use Rattle.std.proofs.Common.{◌≡◌, ◌++◌, drop}
-use Rattle.neph_model.specs.Words.{hex}
-use Rattle.neph_print.proofs.basic.put_hex.Given as goal
-
-abbrev pub invariant-loop-byte : goal.invariant-loop-byte
-invariant-loop-byte l = l.text.items ++ hex (drop l.byte-index l.bytes) ≡ l.fn.text.items ++ hex l.bytes
