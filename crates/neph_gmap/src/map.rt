@@ -122,6 +122,22 @@ impl GuestMap {
         list.add(alloc, v)
     }
 
+    /// Lets the virtual pages be those of another map, of as many pages. After `NoMemory` nothing
+    /// has changed.
+    pub fn copy_vpns(&mut self, from: &GuestMap) -> Result<(), NoMemory>
+        requires { length self.old.pages ≡ length from.now.pages }
+        ensures ok { OnOk result (self.new ≡ record self.old { vpns = from.now.vpns }) }
+        ensures err { OnErr result (self.new ≡ self.old) }
+    {
+        let alloc = *self.vpns.allocator();
+        let mut lists = Vec::with_capacity(alloc, from.vpns.len())?;
+        for list in &from.vpns {
+            lists.push(list.copied(alloc)?)?;
+        }
+        self.vpns = lists;
+        Ok(())
+    }
+
     /// Notes that a virtual page is not mapped to a page.
     pub fn drop_vpn(&mut self, p: Pfn, v: Vpn)
         ensures { self.new ≡ record self.old {

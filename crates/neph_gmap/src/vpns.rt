@@ -58,6 +58,17 @@ fn both(alloc: Global, u: Vpn, v: Vpn) -> Result<Kept, NoMemory>
     Ok(Kept::Many(list))
 }
 
+// The same numbers once more.
+fn copied(kept: &Kept, alloc: Global) -> Result<Kept, NoMemory>
+    ensures { IfOk result (λ k. numbers_in k ≡ numbers_in kept.now) }
+{
+    match kept {
+        Kept::Nothing => Ok(Kept::Nothing),
+        Kept::One(one) => Ok(Kept::One(*one)),
+        Kept::Many(list) => Ok(Kept::Many(Vec::from_slice(alloc, list)?)),
+    }
+}
+
 // Adds a number, if it isn't there yet.
 fn add_to(kept: &mut Kept, alloc: Global, v: Vpn) -> Result<(), NoMemory>
     requires { IsRising (numbers_in kept.old) }
@@ -104,6 +115,14 @@ impl Vpns {
         ensures rising { IsRising result.now }
     {
         numbers_in(&self.kept)
+    }
+
+    /// The same list once more.
+    pub fn copied(&self, alloc: Global) -> Result<Vpns, NoMemory>
+        ensures { IfOk result (λ s. s ≡ self.now) }
+    {
+        let kept = copied(&self.kept, alloc)?;
+        Ok(Vpns { kept })
     }
 
     /// Adds a virtual page, if it isn't there yet. After `NoMemory` nothing has changed.

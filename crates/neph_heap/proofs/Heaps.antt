@@ -26,7 +26,7 @@ use Rattle.neph_heap.proofs.Among.{among_times, times_among, times_none, distinc
 use Rattle.neph_heap.proofs.Steps.{nat_by, has_once, has_zero, has_sole, has_few, has_same, has_retaken, has_handed, has_released, has_joined}
 use Rattle.neph_heap.proofs.Maps.{frame_named}
 
-hold_past : (es : List (Option Entry)) (f : ℕ) → length es ≤ f → hold_at es f ≡ None
+pub hold_past : (es : List (Option Entry)) (f : ℕ) → length es ≤ f → hold_at es f ≡ None
 unfolding hold_at
 hold_past [] f le = refl
 hold_past (e ∷ es) zero le = absurd (omega arith)
@@ -52,7 +52,7 @@ none_at zero i = refl
 none_at (suc n) zero = refl
 none_at {X} (suc n) (suc i) = none_at {X = X} n i
 
-lt_or : (f n : ℕ) → (f < n) ⊎ (n ≤ f)
+pub lt_or : (f n : ℕ) → (f < n) ⊎ (n ≤ f)
 lt_or f zero = inr (omega arith)
 lt_or zero (suc n) = inl (omega arith)
 lt_or (suc f) (suc n) = elim (lt_or f n) [ inl a ↦ inl (omega arith) | inr b ↦ inr (omega arith) ]

@@ -4,6 +4,7 @@ pub mod Steps
 pub mod Shown
 pub mod Heaps
 pub mod Filling
+pub mod Handed
 pub mod Maps
 pub mod Spans
 pub mod Filled

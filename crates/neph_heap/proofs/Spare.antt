@@ -1,5 +1,5 @@
 -- A frame that was taken off the free list goes to another seat.
-use Rattle.std.proofs.Common.{◌≡◌, ◌<◌, ℕ, List, [], ◌∷◌, sym, ◌∙◌}
+use Rattle.std.proofs.Common.{◌≡◌, ℕ, [], ◌∷◌, sym, ◌∙◌}
 use Rattle.neph_pool.specs.Handing.{left_after, giving}
 use Rattle.neph_pool.specs.World.{World, Stays}
 use Rattle.neph_pool.proofs.Walks.{left_one}

@@ -1,9 +1,11 @@
 // Some frames of a seat, one after another.
-ghost use Rattle.std.specs.Prelude.{◌≡◌, ◌<◌, ◌≤◌, ℕ, Some};
-ghost use Rattle.neph_pool.specs.Entries.{words_at, IsZeroAt, IsSoleAt};
-ghost use Rattle.neph_pool.specs.World.{World, IsSeat, Moves};
+ghost use Rattle.std.specs.Prelude.{◌≡◌, ◌<◌, ◌≤◌, ℕ, [], true, None, Some};
+ghost use Rattle.neph_pool.specs.Entries.{words_at, hold_at, is_here, IsZeroAt, IsSoleAt};
+ghost use Rattle.neph_pool.specs.Handing.{add_entries};
+ghost use Rattle.neph_pool.specs.Names.{IsApart, both_names};
+ghost use Rattle.neph_pool.specs.World.{World, IsSeat, Moves, Spares};
 ghost use Rattle.neph_pool.specs.declared.entry.Hold.TheVariants.{Zero, Sole};
-ghost use Rattle.neph_heap.specs.Holds.{times, HoldsAmong};
+ghost use Rattle.neph_heap.specs.Holds.{times, Has, HoldsAmong};
 ghost use Rattle.neph_heap.specs.Lists.{frames_of};
 
 use crate::exposed_frame::ExposedFrame;
@@ -44,4 +46,27 @@ pub fn release_all<P: FramePool>(pool: &mut P, seat: &mut P::Seat, pages: &[Expo
     for page in pages {
         pool.release(seat, page.frame);
     }
+}
+
+// Joins a seat that keeps these frames and has no other. They are handed over one by one, so that
+// the pool has no frame to look for.
+pub fn join_kept<P: FramePool>(pool: &mut P, s: &mut P::Seat, other: P::Seat, kept: &[FrameNo])
+    requires seat { IsSeat P.world pool.old s.old }
+    requires first { P.world.names s.old 0 ≡ true }
+    requires other { IsSeat P.world pool.old other }
+    requires apart { IsApart (P.world.names s.old) (P.world.names other) }
+    requires kept { Has (P.world.entries pool.old other) [] [] kept.now }
+    ensures names { P.world.names s.new ≡ both_names (P.world.names s.old) (P.world.names other) }
+    ensures entries { P.world.entries pool.new s.new
+        ≡ add_entries (P.world.entries pool.old s.old) (P.world.entries pool.old other) }
+    ensures absent { (f : ℕ) → is_here (hold_at (P.world.entries pool.old other) f) ≡ true
+        → hold_at (P.world.entries pool.old s.old) f ≡ None }
+    ensures seat { P.world.fits pool.new s.new }
+    ensures others { Spares P.world (both_names (P.world.names s.old) (P.world.names other))
+        pool.old pool.new }
+    ensures shares { P.world.shares pool.new ≡ P.world.shares pool.old }
+{
+    let mut giver = other;
+    pool.hand(&mut giver, s, kept);
+    pool.join(s, giver);
 }

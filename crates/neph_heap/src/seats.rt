@@ -9,7 +9,7 @@ ghost use Rattle.neph_heap.specs.Lists.{aside_of};
 ghost use Rattle.neph_heap.specs.Pages.{pages_in};
 
 use crate::heap::Heap;
-use crate::moves::retake_all;
+use crate::moves::{join_kept, retake_all};
 use neph_base::{DomId, FrameNo, List, NoMemory};
 use neph_pool::FramePool;
 
@@ -111,7 +111,7 @@ impl<P: FramePool> Heap<P> {
             (both_names (P.world.names self.old.seat) (P.world.names seat)) pool.old pool.new }
         ensures shares { P.world.shares pool.new ≡ P.world.shares pool.old }
     {
-        pool.join(&mut self.seat, seat);
+        join_kept(pool, &mut self.seat, seat, frames);
         self.stock.add_free(frames);
     }
 

@@ -8,6 +8,8 @@ pub mod Emptying
 pub mod Crowd
 pub mod Stepping
 pub mod Tabling
+pub mod Copied
+pub mod Tabled
 pub mod Sprouted
 pub mod Wording
 pub mod Growing

@@ -1,5 +1,5 @@
 -- Words and numbers that are written into a page.
-use Rattle.std.proofs.Common.{◌≡◌, ◌≢◌, ◌<◌, ◌+◌, ◌++◌, if◌then◌else◌, ℕ, zero, suc, Bool, true, List, [], ◌∷◌, length, set, take, drop, get_or, option_map, Some, None, refl, sym, ap, ◌∙◌, arith, eq-eqb, ne_eqb}
+use Rattle.std.proofs.Common.{◌≡◌, ◌≢◌, if◌then◌else◌, ℕ, Bool, true, List, length, option_map, Some, None, refl, sym, ap, ◌∙◌, arith, eq-eqb, ne_eqb}
 use Rattle.std.specs.Int.{w32, to_le_bytes}
 use Rattle.std.specs.declared.option.Option.{Option}
 use Rattle.neph_model.specs.Memory.{page_with_bytes}
@@ -7,8 +7,8 @@ use Rattle.neph_pool.specs.declared.entry.Entry.{Entry}
 use Rattle.neph_pool.specs.declared.entry.Hold.{Hold}
 use Rattle.neph_pool.specs.declared.entry.Hold.TheVariants.{Zero, Sole, Counted}
 use Rattle.neph_pool.specs.Bytes.{bytes_of}
-use Rattle.neph_pool.specs.Entries.{hold_at, words_at, is_here, is_held, weight_of, with_words, with_word}
-use Rattle.neph_pool.proofs.Entries.{words_at-with_words, words_at-with_words_other, with_words-twice}
+use Rattle.neph_pool.specs.Entries.{words_at, is_held, weight_of, with_words}
+use Rattle.neph_pool.proofs.Entries.{words_at-with_words_other}
 use Rattle.neph_memory.specs.declared.own.Own.{Own}
 use Rattle.neph_memory.specs.Pages.{frame_at}
 use Rattle.neph_memory.specs.Memory.{bytes_for, page_bytes, IsMemory}
@@ -19,32 +19,6 @@ once_held None e = absurd (omega (arith, e))
 once_held (Some Zero) e = absurd (omega (arith, e))
 once_held (Some Sole) e = refl
 once_held (Some (Counted n)) e = refl
-
-over_more : (A D : List ℕ) (w : ℕ) → w < length A → length A ≡ length D → set (take w A ++ drop w D) w (get_or A w 0) ≡ take (suc w) A ++ drop (suc w) D
-over_more [] D w h e = absurd (omega arith)
-over_more (a ∷ A) [] w h e = absurd (omega arith)
-over_more (a ∷ A) (d ∷ D) zero h e = refl
-over_more (a ∷ A) (d ∷ D) (suc w) h e = ap (λ (xs : List ℕ). a ∷ xs) (over_more A D w (omega arith) (omega arith))
-
--- one more word of a copy into the frame t
-pub copied_next : (ts es1 es2 : List (Option Entry)) (t w x : ℕ) (A : List ℕ) → is_here (hold_at ts t) ≡ true → length A ≡ length (words_at ts t) → w < length A → x ≡ get_or A w 0
-    → es1 ≡ with_words ts t (take w A ++ drop w (words_at ts t)) → es2 ≡ with_word es1 t w x → es2 ≡ with_words ts t (take (w + 1) A ++ drop (w + 1) (words_at ts t))
-copied_next ts es1 es2 t w x A here len lt is e h =
-    let xs : List ℕ = take w A ++ drop w (words_at ts t) in
-    let one : suc w ≡ w + 1 = omega arith in
-    h ∙ ap (λ (es : List (Option Entry)). with_word es t w x) e
-    ∙ ap (λ (ys : List ℕ). with_words (with_words ts t xs) t (set ys w x)) (words_at-with_words ts t xs here)
-    ∙ with_words-twice ts t xs (set xs w x)
-    ∙ ap (λ (k : ℕ). with_words ts t (set xs w k)) is ∙ ap (with_words ts t) (over_more A (words_at ts t) w lt len)
-    ∙ ap (λ (k : ℕ). with_words ts t (take k A ++ drop k (words_at ts t))) one
-
-pub copied_all : (A D : List ℕ) (n : ℕ) → n ≡ length A → length A ≡ length D → take n A ++ drop n D ≡ A
-copied_all [] [] zero e h = refl
-copied_all [] [] (suc n) e h = absurd (omega (arith, e))
-copied_all [] (d ∷ D) n e h = absurd (omega (arith, h))
-copied_all (a ∷ A) [] n e h = absurd (omega (arith, h))
-copied_all (a ∷ A) (d ∷ D) zero e h = absurd (omega (arith, e))
-copied_all (a ∷ A) (d ∷ D) (suc n) e h = ap (λ (xs : List ℕ). a ∷ xs) (copied_all A D n (omega (arith, e)) (omega (arith, h)))
 
 -- the pages but the page p are as they were
 pub bytes_else : (es fs : List (Option Entry)) (root : ℕ) (o : Own) (m : IsMemory es root o) (p t : ℕ) (ws : List ℕ) → frame_at o.map.pages p ≡ Some t → fs ≡ with_words es t ws → (q : ℕ) → q ≢ p → page_bytes fs o.map.pages q ≡ page_bytes es o.map.pages q

@@ -1,14 +1,20 @@
 -- A child's memory is built beside its parent's.
-use Rattle.std.specs.Prelude.{◌≡◌, ◌<◌, ◌≤◌, ◌^◌, if◌then◌else◌, ℕ, [], length, replicate, nat_lt, is_some, option_map, true, None}
+use Rattle.std.specs.Prelude.{◌≡◌, ◌≢◌, ◌<◌, ◌≤◌, ◌/◌, ◌^◌, ◌⊎◌, ℕ, List, [], length, replicate, is_some, option_map, true, None, Some, IsSome}
+use Rattle.std.specs.declared.option.Option.{Option}
 use Rattle.neph_model.specs.Memory.{page_with_identity}
 use Rattle.neph_memory.specs.Memory.{is_marked}
 use Rattle.neph_base.specs.declared.sizes.TheConstants.{TABLE_ENTRIES}
+use Rattle.neph_pool.specs.declared.entry.Entry.{Entry}
+use Rattle.neph_pool.specs.Entries.{hold_at, words_at, IsSoleAt}
+use Rattle.neph_pool.specs.Handing.{AreDistinct}
 use Rattle.neph_pool.specs.Names.{both_names}
 use Rattle.neph_pool.specs.World.{World, Spares, SameCounts}
+use Rattle.neph_ptab.specs.Tables.{leaf_at, walk_at, IsTable, IsTables}
 use Rattle.neph_gmap.specs.GuestPages.{vpns_at}
 use Rattle.neph_memory.specs.declared.dom_local.DomLocal.{DomLocal}
 use Rattle.neph_memory.specs.Pages.{frame_at}
 use Rattle.neph_memory.specs.Domains.{domain_page, domain_mapping, domain_leaf, IsUnchanged}
+use Rattle.neph_memory.specs.Building.{IsAmong}
 use Rattle.neph_memory.specs.Shared.{SharedStays, KeepsShared}
 use Rattle.neph_gmap.specs.declared.page.Page.TheVariants.{Exposed as Away}
 use Rattle.neph_memory.specs.declared.own.Own.{Own}
@@ -50,11 +56,25 @@ pub record IsBlank (o : Own) (n : ℕ) : Type 0 where
   pub marks : length o.marks.items ≡ n
   pub spare : o.spare ≡ None
 
--- the child c maps the virtual pages below m as its parent d does, and no other
-abbrev pub MapsBelow : {Pool Seat : Type 0} → World Pool Seat → Pool → DomLocal Pool Seat
-    → DomLocal Pool Seat → ℕ → Type 0
-MapsBelow W p d c m = (u : ℕ) → u < 2 ^ 18
-    → domain_mapping W p c u ≡ (if nat_lt u m then domain_mapping W p d u else None)
+-- The parent's leaf tables before place n have been copied: they stand in its entries es, by the
+-- root `top`. The child's entries were cs, with a root and no leaf, and are fs. The frames of
+-- `waits` waited, and those of `left` still do: the others are leaf tables. Where the parent has a
+-- leaf table, what the parent has to itself the child lacks.
+pub record AreCopied (es : List (Option Entry)) (top : ℕ) (cs fs : List (Option Entry)) (root : ℕ)
+    (waits left : List ℕ) (n : ℕ) : Type 0 where
+  pub tables : IsTables fs root
+  pub holds : (g : ℕ) → hold_at fs g ≡ hold_at cs g
+  pub words : (g : ℕ) → g ≢ root → (IsAmong waits g → ⊥) → words_at fs g ≡ words_at cs g
+  pub there : (i : ℕ) → i < n → is_some (leaf_at fs root i) ≡ is_some (leaf_at es top i)
+  pub none : (i : ℕ) → n ≤ i → i < TABLE_ENTRIES → leaf_at fs root i ≡ None
+  pub walks : (u : ℕ) → u < 2 ^ 18 → u / TABLE_ENTRIES < n → walk_at fs root u ≡ walk_at es top u
+  pub named : (i f : ℕ) → i < TABLE_ENTRIES → leaf_at fs root i ≡ Some f → IsAmong waits f
+  pub alone : (i : ℕ) → i < n → IsSome (leaf_at es top i)
+      → (g : ℕ) → IsSoleAt es g → hold_at cs g ≡ None
+  pub waiting : (g : ℕ) → IsAmong left g → IsAmong waits g
+  pub free : (g : ℕ) → IsAmong left g → IsTable fs root g → ⊥
+  pub used : (g : ℕ) → IsAmong waits g → IsAmong left g ⊎ IsTable fs root g
+  pub once : AreDistinct left
 
 -- The child c has the pages of its parent d but for the identity page, which waits for its frame.
 -- It has no leaf table yet.

@@ -2,9 +2,7 @@
 ghost use Rattle.std.specs.Prelude.{◌≡◌, ◌≢◌, ℕ, true, IsSome, option_map, length};
 ghost use Rattle.std.specs.Int.{w32, to_le_bytes};
 ghost use Rattle.neph_model.specs.Memory.{page_with_identity};
-ghost use Rattle.neph_pool.specs.Entries.{with_words, words_at, IsHeldAt, IsSoleAt};
-ghost use Rattle.neph_pool.specs.Names.{IsApart, both_names};
-ghost use Rattle.neph_pool.specs.World.{World, IsSeat, Stays, Spares, SameCounts};
+ghost use Rattle.neph_pool.specs.World.{World, SameCounts};
 ghost use Rattle.neph_memory.specs.Pages.{frame_at};
 ghost use Rattle.neph_memory.specs.Memory.{is_marked};
 ghost use Rattle.neph_memory.specs.Domains.{IsStanding, domain_page, KeepsOtherPages, KeepsMap, KeepsLeaves, KeepsSeats};
@@ -12,38 +10,9 @@ ghost use Rattle.neph_memory.specs.Shared.{KeepsShared};
 ghost use Rattle.neph_local.specs.Copies.{IsChildStep};
 
 use byteorder::{ByteOrder, LittleEndian};
-use neph_base::{DomId, FrameNo, Pfn, Piece};
+use neph_base::{DomId, Pfn, Piece};
 use neph_memory::{DomLocal, frame_for};
-use neph_pool::{FRAME_WORDS, FramePool};
-
-// All words of a frame of one seat go into a frame that another seat has to itself.
-fn copy_words<P: FramePool>(
-    pool: &mut P,
-    from: &mut P::Seat,
-    to: &mut P::Seat,
-    f: FrameNo,
-    t: FrameNo,
-)
-    requires from { IsSeat P.world pool.old from.old }
-    requires to { IsSeat P.world pool.old to.old }
-    requires apart { IsApart (P.world.names from.old) (P.world.names to.old) }
-    requires source { IsHeldAt (P.world.entries pool.old from.old) f }
-    requires target { IsSoleAt (P.world.entries pool.old to.old) t }
-    ensures kept { P.world.entries pool.new from.new ≡ P.world.entries pool.old from.old }
-    ensures copied { P.world.entries pool.new to.new
-        ≡ with_words (P.world.entries pool.old to.old) t
-        (words_at (P.world.entries pool.old from.old) f) }
-    ensures from { Stays P.world pool.new from.old from.new }
-    ensures to { Stays P.world pool.new to.old to.new }
-    ensures others { Spares P.world (both_names (P.world.names from.old) (P.world.names to.old))
-        pool.old pool.new }
-    ensures counts { SameCounts P.world pool.old pool.new }
-{
-    for w in 0..FRAME_WORDS {
-        let word = pool.read(from, f, w);
-        pool.write(to, t, w, word);
-    }
-}
+use neph_pool::FramePool;
 
 /// A local page of a child, which is marked, gets the bytes of its parent's.
 pub fn copy_bytes<P: FramePool>(pool: &mut P, d: &mut DomLocal<P>, c: &mut DomLocal<P>, p: Pfn)
@@ -64,7 +33,7 @@ pub fn copy_bytes<P: FramePool>(pool: &mut P, d: &mut DomLocal<P>, c: &mut DomLo
 {
     let f = frame_for(&d.own.map, p).unwrap();
     let t = frame_for(&c.own.map, p).unwrap();
-    copy_words(pool, &mut d.seat, &mut c.seat, f, t);
+    pool.copy_across(&mut d.seat, &mut c.seat, f, t);
 }
 
 // A number as four bytes, the lowest first.

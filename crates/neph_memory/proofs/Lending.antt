@@ -1,14 +1,19 @@
 -- What a seat has left of a frame that it lent.
-use Rattle.std.proofs.Common.{◌≡◌, ◌≢◌, ◌<◌, ◌||◌, ◌⊎◌, inl, inr, ℕ, Bool, true, false, List, length, Some, None, refl, sym, ap, subst, ◌∙◌}
+use Rattle.std.proofs.Common.{◌≡◌, ◌≢◌, ◌<◌, ◌||◌, ◌⊎◌, inl, inr, ℕ, Bool, true, false, List, length, set, get_or, Some, None, refl, sym, ap, subst, ◌∙◌}
 use Rattle.std.proofs.lemmas.List.{get_or-set_same, get_or-set_other}
 use Rattle.std.specs.declared.option.Option.{Option}
 use Rattle.neph_pool.specs.declared.entry.Entry.{Entry}
 use Rattle.neph_pool.specs.declared.entry.Hold.{Hold}
-use Rattle.neph_pool.specs.Entries.{entry_at, entry_as, hold_of, words_of, hold_at, words_at, is_here}
+use Rattle.neph_pool.specs.declared.entry.Hold.TheVariants.{Zero, Sole, Counted}
+use Rattle.neph_pool.specs.Bytes.{bytes_of}
+use Rattle.neph_pool.specs.Entries.{entry_at, entry_as, hold_of, words_of, hold_at, words_at, is_here, weight_of}
 use Rattle.neph_pool.specs.Handing.{giving, left_of, left_hold}
 use Rattle.neph_pool.specs.Names.{both_names}
 use Rattle.neph_pool.specs.World.{World, Spares}
 use Rattle.neph_pool.proofs.Rows.{same_or_not}
+use Rattle.neph_memory.specs.declared.own.Own.{Own}
+use Rattle.neph_memory.specs.Pages.{frame_at}
+use Rattle.neph_memory.specs.Memory.{is_marked, bytes_for, IsMemory}
 
 words_as : (h : Option Hold) (ws : List ℕ) → is_here h ≡ true → words_of (entry_as h ws) ≡ ws
 words_as None ws e = absurd (cc)
@@ -48,3 +53,33 @@ both_spare W ns ms ks p q r h e k =
       fits = λ t f a. k'.fits t (h.fits t f a) (λ d x y. a d (or_left (ns d) (ks d) x) y);
       entries = λ t f a. k'.entries t (h.fits t f a) (λ d x y. a d (or_left (ns d) (ks d) x) y) ∙ h.entries t f a;
     }
+
+counted_one : (h : Option Hold) → weight_of h ≡ 1 → (h ≡ Some Sole → ⊥) → h ≡ Some (Counted 1)
+counted_one None e n = absurd (let z : 0 ≡ 1 = e in cc)
+counted_one (Some Zero) e n = absurd (let z : 0 ≡ 1 = e in cc)
+counted_one (Some Sole) e n = absurd (n refl)
+counted_one (Some (Counted k)) e n = ap (λ (x : ℕ). Some (Counted x)) e
+
+-- of a page that isn't marked a reference is lent: the seat holds each frame as it did
+pub lent_holds : (es fs : List (Option Entry)) (root : ℕ) (o : Own) → IsMemory es root o → (p f : ℕ) → frame_at o.map.pages p ≡ Some f → is_marked o p ≡ false → hold_at fs f ≡ Some (Counted 1) → ((g : ℕ) → g ≢ f → hold_at fs g ≡ hold_at es g) → (g : ℕ) → hold_at fs g ≡ hold_at es g
+lent_holds es fs root o m p f at clear kept others g = elim (same_or_not g f) [
+  | inl e ↦
+      ap (hold_at fs) e ∙ kept
+      ∙ sym (counted_one (hold_at es f) (m.made.held p f at) (λ s. let yes : is_marked o p ≡ true = (m.made.sole p f at).1 s in absurd (cc)))
+      ∙ ap (hold_at es) (sym e)
+  | inr n ↦ others g n
+]
+
+-- the pages have the bytes that they had
+pub same_bytes : (es fs : List (Option Entry)) (x : Option ℕ) → ((g : ℕ) → words_at fs g ≡ words_at es g) → bytes_for fs x ≡ bytes_for es x
+same_bytes es fs None same = refl
+same_bytes es fs (Some g) same = ap (λ (ws : List ℕ). Some (bytes_of ws)) (same g)
+
+-- the mark is gone
+pub mark_gone : (marks : List Bool) (p n : ℕ) → n ≡ p → p < length marks → get_or (set marks n false) p false ≡ false
+mark_gone marks p n e lt = ap (λ (k : ℕ). get_or (set marks k false) p false) e ∙ get_or-set_same marks p false false lt
+
+-- no mark was met
+pub mark_clear : (marks : List Bool) (p n : ℕ) (b : Bool) → n ≡ p → b ≡ get_or marks n b → b ≡ false → p < length marks → get_or marks p false ≡ false
+mark_clear marks p n true e at h lt = absurd (cc)
+mark_clear marks p n false e at h lt = ap (λ (k : ℕ). get_or marks k false) (sym e) ∙ sym at

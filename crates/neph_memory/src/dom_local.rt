@@ -409,10 +409,15 @@ impl<P: FramePool> DomLocal<P> {
             ≡ min (P.world.shares pool.old + 1) (2 ^ 64 - 1) }
     {
         let frame = frame_for(&self.own.map, p).unwrap();
+        let place = p.get() as usize;
+        let marked = self.own.marks[place];
         lend(pool, &mut self.seat, to, child, frame);
+        if !marked {
+            return;
+        }
         self.tables
             .move_page(pool, &mut self.seat, self.own.map.vpns(p), frame, false);
-        self.own.marks[p.get() as usize] = false;
+        self.own.marks[place] = false;
     }
 }
 

@@ -1,14 +1,14 @@
 // What a domain's memory tells.
-ghost use Rattle.std.specs.Prelude.{◌≡◌, ◌≢◌, ◌/◌, ◌+◌, ◌<◌, ◌^◌, ◌↔◌, ℕ, true, false, IsSome, IsTrue, is_some, length, option_map};
+ghost use Rattle.std.specs.Prelude.{◌≡◌, ◌≢◌, ◌+◌, ◌<◌, ◌^◌, ◌↔◌, ℕ, true, false, IsSome, IsTrue, is_some, length, option_map};
 ghost use Rattle.neph_pool.specs.World.{World, SameCounts};
 ghost use Rattle.neph_gmap.specs.GuestPages.{IsUnaliased};
 ghost use Rattle.neph_memory.specs.Pages.{frame_at};
 ghost use Rattle.neph_memory.specs.Memory.{is_marked, mapping, mode_of, pfn_by, wanted_by};
-ghost use Rattle.neph_memory.specs.Domains.{IsStanding, domain_mapping, domain_leaf, KeepsPages, KeepsMap, KeepsLeaves, KeepsSeats, IsUnchanged, IfTold, IsSharedPage};
+ghost use Rattle.neph_memory.specs.Domains.{IsStanding, domain_mapping, KeepsPages, KeepsMap, KeepsLeaves, KeepsSeats, IsUnchanged, IfTold, IsSharedPage};
 
 use crate::dom_local::DomLocal;
 use crate::own::frame_for;
-use neph_base::{FrameNo, Mode, Pfn, TABLE_ENTRIES, Vpn};
+use neph_base::{FrameNo, Mode, Pfn, Vpn};
 use neph_gmap::GuestMap;
 use neph_model::Mapping;
 use neph_pool::FramePool;
@@ -55,21 +55,6 @@ impl<P: FramePool> DomLocal<P> {
     {
         let walk = self.tables.walk(pool, &mut self.seat, v);
         mapping_in(&self.own.map, walk)
-    }
-
-    /// Whether the leaf table for a virtual page is there. Nothing changes.
-    pub fn has_leaf(&mut self, pool: &mut P, v: Vpn) -> bool
-        requires stands { IsStanding P.world pool.old self.old }
-        ensures leaf { result
-            ≡ is_some (domain_leaf P.world pool.old self.old (v / TABLE_ENTRIES)) }
-        ensures range { v < 2 ^ 18 }
-        ensures stands { IsStanding P.world pool.new self.new }
-        ensures same { IsUnchanged P.world pool.old self.old pool.new self.new }
-        ensures moves { KeepsSeats P.world pool.old self.old pool.new self.new }
-        ensures counts { SameCounts P.world pool.old pool.new }
-    {
-        let leaf = self.tables.leaf(pool, &mut self.seat, v);
-        leaf.is_some()
     }
 
     /// Whether a local page is marked as the domain's alone, after a look at the count of its frame

@@ -1,14 +1,17 @@
 -- How the owners of a frame read after a change.
-use Rattle.std.proofs.Common.{◌≡◌, ◌≢◌, ℕ, zero, suc, ◌+◌, ◌*◌, ◌<◌, ◌≤◌, length-set, Bool, true, false, List, [], ◌∷◌, length, set, get_or, replicate, sum, Some, None, refl, sym, ap, ◌∙◌, arith, ◌==◌, if◌then◌else◌, eq-eqb, ne_eqb}
+use Rattle.std.proofs.Common.{◌≡◌, ◌≢◌, ℕ, zero, suc, ◌+◌, ◌-◌, ◌*◌, ◌<◌, ◌≤◌, length-set, Bool, true, false, List, [], ◌∷◌, length, set, get_or, replicate, sum, Some, None, refl, sym, ap, ◌∙◌, arith, ◌==◌, if◌then◌else◌, eq-eqb, ne_eqb}
+use Rattle.std.specs.Prelude.{nat_lt}
 use Rattle.std.proofs.lemmas.List.{length-replicate, get_or-set_other, get_or-set_same}
 use Rattle.std.proofs.lemmas.List.Sums.{sum_by-set, sum_by-cons}
 use Rattle.std.proofs.lemmas.List.Folds.{sum_by-replicate}
-use Rattle.std.proofs.lemmas.Bool.{eqb-true}
+use Rattle.std.proofs.lemmas.Bool.{eqb-true, lt-ltb}
 use Rattle.neph_pool.specs.declared.entry.Hold.TheVariants.{Zero, Sole, Counted}
+use Rattle.neph_pool.specs.declared.weights.Weights.{Weights}
 use Rattle.neph_pool.specs.declared.owners.Owners.{Owners}
 use Rattle.neph_pool.specs.declared.owners.Owners.TheVariants.{Spare, Alone, Many}
-use Rattle.neph_pool.specs.Entries.{weight_of}
-use Rattle.neph_pool.specs.Owners.{held_by, total_of, counted}
+use Rattle.neph_pool.specs.Entries.{weight_of, is_here}
+use Rattle.neph_pool.specs.Handing.{left_hold, moved_hold}
+use Rattle.neph_pool.specs.Owners.{held_by, total_of, counted, IsShared, IsReleased, IsHanded}
 
 abbrev zeros : ℕ → List ℕ
 zeros n = replicate n 0
@@ -135,3 +138,92 @@ some_total r (Spare q) e = absurd (spare (r == q) e) where
   spare false h = omega arith
 some_total r (Alone q) e = omega arith
 some_total r (Many ws) e = let k = ws.some in omega arith
+
+-- the row that has something of a frame of one row is that row
+here_row : (b : Bool) (row q : ℕ) → (row == q) ≡ b → is_here (if b then Some Zero else None) ≡ true → row ≡ q
+here_row true row q e h = eqb-true row q e
+here_row false row q e h = absurd (cc)
+
+here_alone : (b : Bool) (row q : ℕ) → (row == q) ≡ b → is_here (if b then Some Sole else None) ≡ true → row ≡ q
+here_alone true row q e h = eqb-true row q e
+here_alone false row q e h = absurd (cc)
+
+spare_own : (q : ℕ) → held_by q (Spare q) ≡ Some Zero
+spare_own q = rw (eq-eqb q q refl) refl
+
+spare_else : (q r : ℕ) → r ≢ q → held_by r (Spare q) ≡ None
+spare_else q r n = rw (ne_eqb r q n) refl
+
+alone_sole : (q : ℕ) → held_by q (Alone q) ≡ Some Sole
+alone_sole q = rw (eq-eqb q q refl) refl
+
+-- a frame of one row alone goes as it is
+pub spare_handed : (q from to : ℕ) → from ≢ to → is_here (held_by from (Spare q)) ≡ true → IsHanded from to (Spare q) (Spare to)
+spare_handed q from to n h =
+    let e : from ≡ q = here_row (from == q) from q refl h in
+    let had : held_by from (Spare q) ≡ Some Zero = ap (λ (k : ℕ). held_by from (Spare k)) (sym e) ∙ spare_own from in record {
+      left = spare_else to from n ∙ sym (ap left_hold had);
+      moved = spare_own to ∙ sym (ap moved_hold had);
+      others = λ r a b. spare_else to r b ∙ sym (spare_else q r (λ k. a (k ∙ sym e)));
+      total = refl;
+    }
+
+pub alone_handed : (q from to : ℕ) → from ≢ to → is_here (held_by from (Alone q)) ≡ true → IsHanded from to (Alone q) (Alone to)
+alone_handed q from to n h =
+    let e : from ≡ q = here_alone (from == q) from q refl h in
+    let had : held_by from (Alone q) ≡ Some Sole = ap (λ (k : ℕ). held_by from (Alone k)) (sym e) ∙ alone_sole from in record {
+      left = none_else to from n ∙ sym (ap left_hold had);
+      moved = alone_sole to ∙ sym (ap moved_hold had);
+      others = λ r a b. none_else to r b ∙ sym (none_else q r (λ k. a (k ∙ sym e)));
+      total = refl;
+    }
+
+-- a frame that is kept has no reference
+pub spare_weight : (row q : ℕ) → weight_of (held_by row (Spare q)) ≡ 1 → ⊥
+spare_weight row q h = by (row == q) h where
+  by : (b : Bool) → weight_of (if b then Some Zero else None) ≡ 1 → ⊥
+  by true e = omega arith
+  by false e = omega arith
+
+-- the last reference goes
+pub last_released : (o : Owners) (row : ℕ) → total_of o ≡ 1 → weight_of (held_by row o) ≡ 1 → IsReleased true row o (Spare row)
+last_released o row t h = record {
+  last = (λ _. t, λ _. refl);
+  own = spare_own row;
+  others = λ r n. last_others o row r t h n;
+  total = omega (arith, t);
+}
+
+-- it isn't the last
+pub more_released : (row : ℕ) (w v : Weights) → w.count ≢ 1 → held_by row (Many v) ≡ None → ((r : ℕ) → r ≢ row → held_by r (Many v) ≡ held_by r (Many w)) → v.count ≡ w.count - 1 → IsReleased false row (Many w) (Many v)
+more_released row w v n own others total = record {
+  last = (λ e. absurd (let z : false ≡ true = e in cc), λ e. absurd (n e));
+  own = own;
+  others = others;
+  total = total;
+}
+
+-- a frame of one row alone gets counts
+pub alone_shared : (row q : ℕ) (w : Weights) → row < 64 → weight_of (held_by row (Alone q)) ≡ 1 → w.by_row ≡ set (zeros 64) row 2 → w.count ≡ 2 → IsShared row (Alone q) (Many w)
+alone_shared row q w lt once by count = record {
+  own = alone_own row w.by_row lt by;
+  others = λ r n. alone_others row q r w.by_row once by n;
+  total = count;
+}
+
+-- whether a row has something of a frame
+pub here_spare : (q row : ℕ) → (q == row) ≡ is_here (held_by row (Spare q))
+here_spare q row = turned q row (row == q) refl where
+  turned : (q row : ℕ) (b : Bool) → (row == q) ≡ b → (q == row) ≡ is_here (if b then Some Zero else None)
+  turned q row true e = eq-eqb q row (sym (eqb-true row q e))
+  turned q row false e = ne_eqb q row (λ k. let t : (row == q) ≡ true = eq-eqb row q (sym k) in absurd (cc))
+
+pub here_own : (q row : ℕ) → (q == row) ≡ is_here (held_by row (Alone q))
+here_own q row = turned q row (row == q) refl where
+  turned : (q row : ℕ) (b : Bool) → (row == q) ≡ b → (q == row) ≡ is_here (if b then Some Sole else None)
+  turned q row true e = eq-eqb q row (sym (eqb-true row q e))
+  turned q row false e = ne_eqb q row (λ k. let t : (row == q) ≡ true = eq-eqb row q (sym k) in absurd (cc))
+
+pub here_many : (n : ℕ) → nat_lt 0 n ≡ is_here (counted n)
+here_many zero = refl
+here_many (suc n) = lt-ltb 0 (suc n) (omega arith) ∙ sym (ap is_here (counted_some (suc n) (λ e. absurd (let z : suc n ≡ 0 = e in omega (arith, z)))))

@@ -1,12 +1,13 @@
 -- The owners of frames, by their kinds and the places of their counts.
-use Rattle.std.proofs.Common.{◌≡◌, ◌≢◌, ℕ, zero, suc, ◌-◌, ◌<◌, inl, inr, List, [], ◌∷◌, ◌++◌, length, set, get_or, replicate, take, refl, sym, ap, ◌∙◌, arith, length-set}
-use Rattle.std.proofs.lemmas.List.{map-set, length-map, ext_get_or, map-append, get_or-set_other, get_or-set_same}
+use Rattle.std.proofs.Common.{◌≡◌, ◌≢◌, ℕ, zero, suc, ◌-◌, ◌<◌, inl, inr, List, [], ◌∷◌, ◌++◌, length, set, get_or, replicate, take, refl, sym, ap, ◌∙◌, subst, arith, length-set}
+use Rattle.std.proofs.lemmas.List.{map-set, length-map, ext_get_or, map-append, get_or-set_other, get_or-set_same, get_or_default, get_or-map, set-get_or}
 use Rattle.neph_pool.specs.declared.weights.Weights.{Weights}
 use Rattle.neph_pool.specs.declared.owners.Owners.{Owners}
-use Rattle.neph_pool.specs.declared.owners.Owners.TheVariants.{Spare, Many}
+use Rattle.neph_pool.specs.declared.owners.Owners.TheVariants.{Spare, Alone, Many}
 use Rattle.neph_pool.specs.declared.kind.Kind.{Kind}
-use Rattle.neph_pool.specs.declared.kind.Kind.TheVariants.{Kept, Shared}
-use Rattle.neph_pool.specs.Holders.{owners_by, owner_at, owners_in, shared_of}
+use Rattle.neph_pool.specs.declared.kind.Kind.TheVariants.{Kept, Own, Shared}
+use Rattle.neph_pool.specs.declared.holders.Holders.{Holders}
+use Rattle.neph_pool.specs.Holders.{owners_by, owner_at, owners_in, owners_of, shared_of, OwnersStep}
 use Rattle.neph_pool.proofs.Rows.{same_or_not}
 
 abbrev no_kinds : List Kind
@@ -106,3 +107,50 @@ shared_new xs w ks ps f n fit even len within =
     (holder_shared ws (ws ++ Many w ∷ []) ks ps (set ps f n) f (Many w) fit even (length-set ps f n)
     (ap (λ (j : ℕ). owner_at (ws ++ Many w ∷ []) j) (get_or-set_same ps f n 0 fit' ∙ sym size) ∙ last ws (Many w))
     (λ i ne. ap (λ (j : ℕ). owner_at (ws ++ Many w ∷ []) j) (get_or-set_other ps f i n 0 ne) ∙ front ws (Many w) (get_or ps i 0) (let z = within i in omega (arith, z, size))))
+
+-- they are changed where they lie
+pub shared_again : (xs : List Weights) (w : Weights) (ks : List Kind) (ps : List ℕ) (f k n : ℕ) → f < length ks → length ks ≡ length ps → n ≡ length xs → get_or ks f (Kept 0) ≡ Shared → k ≡ get_or ps f 0 → k ≢ 0 → ((i : ℕ) → get_or ps i 0 < n)
+    → ((i j : ℕ) → i ≢ j → get_or ps i 0 ≡ get_or ps j 0 → get_or ps i 0 ≡ 0) → owners_in (shared_of (set xs k w)) ks ps ≡ set (owners_in (shared_of xs) ks ps) f (Many w)
+shared_again xs w ks ps f k n fit even len kind is own within apart =
+    let same : set ks f Shared ≡ ks = ap (λ (y : Kind). set ks f y) (sym kind) ∙ set-get_or ks f (Kept 0) in
+    ap (λ (ys : List Kind). owners_in (shared_of (set xs k w)) ys ps) (sym same) ∙ shared_old xs w ks ps f k n fit even len is own within apart
+
+-- one frame f, of the kind k
+module _ (p : Holders) (f : ℕ) (k : Kind) (fit : f < length p.kinds.items) (at : k ≡ get_or p.kinds.items f k) where
+  abbrev before : List Weights → Owners
+  before xs = owner_at (shared_of xs) (get_or p.places.items f 0)
+
+  here : (j : Kind) → k ≡ j → owner_at (owners_of p) f ≡ owners_by j (before p.counts.items)
+  here j is = holder_here (shared_of p.counts.items) p.kinds.items p.places.items f k fit p.even at ∙ ap (λ (y : Kind). owners_by y (before p.counts.items)) is
+
+  pub kept_here : (q : ℕ) → k ≡ Kept q → owner_at (owners_of p) f ≡ Spare q
+  kept_here q is = here (Kept q) is
+
+  pub own_here : (q : ℕ) → k ≡ Own q → owner_at (owners_of p) f ≡ Alone q
+  own_here q is = here (Own q) is
+
+  -- it is one row's then
+  pub kept_step : (IsStep : Owners → Owners → Type 0) (o : Owners) (r : ℕ) → owner_at (owners_of p) f ≡ o → IsStep o (Spare r) → OwnersStep IsStep (owners_of p) f (owners_in (shared_of p.counts.items) (set p.kinds.items f (Kept r)) p.places.items)
+  kept_step IsStep o r e s = (Spare r, holder_put (shared_of p.counts.items) p.kinds.items p.places.items f (Kept r) (Spare r) (λ x. refl), subst (λ (x : Owners). IsStep x (Spare r)) (sym e) s)
+
+  pub own_step : (IsStep : Owners → Owners → Type 0) (o : Owners) (r : ℕ) → owner_at (owners_of p) f ≡ o → IsStep o (Alone r) → OwnersStep IsStep (owners_of p) f (owners_in (shared_of p.counts.items) (set p.kinds.items f (Own r)) p.places.items)
+  own_step IsStep o r e s = (Alone r, holder_put (shared_of p.counts.items) p.kinds.items p.places.items f (Own r) (Alone r) (λ x. refl), subst (λ (x : Owners). IsStep x (Alone r)) (sym e) s)
+
+  -- it has the counts w at the place i
+  module _ (i : ℕ) (w : Weights) (is : k ≡ Shared) (place : i ≡ get_or p.places.items f i) (counts : w ≡ get_or p.counts.items i w) where
+    first : i ≡ get_or p.places.items f 0
+    first = place ∙ get_or_default p.places.items f i 0 (let e = p.even in omega (arith, fit, e))
+
+    pub many_here : owner_at (owners_of p) f ≡ Many w
+    many_here =
+        let lt : get_or p.places.items f 0 < length p.counts.items = (let z = p.within f in omega (arith, z, p.counts.ok.0)) in
+        here Shared is ∙ get_or-map (λ (v : Weights). Many v) p.counts.items (get_or p.places.items f 0) w (Spare 0) lt
+        ∙ ap (λ (v : Weights). Many v) (ap (λ (j : ℕ). get_or p.counts.items j w) (sym first) ∙ sym counts)
+
+    pub many_step : (IsStep : Owners → Owners → Type 0) (v : Weights) → IsStep (Many w) (Many v) → OwnersStep IsStep (owners_of p) f (owners_in (shared_of (set p.counts.items i v)) p.kinds.items p.places.items)
+    many_step IsStep v s =
+        let kind : get_or p.kinds.items f (Kept 0) ≡ Shared = get_or_default p.kinds.items f (Kept 0) k fit ∙ sym at ∙ is in (
+          Many v,
+          shared_again p.counts.items v p.kinds.items p.places.items f i _ fit p.even p.counts.ok.0 kind first (λ z. p.placed f kind (sym first ∙ z)) p.within p.apart,
+          subst (λ (x : Owners). IsStep x (Many v)) (sym many_here) s,
+        )

@@ -1,9 +1,10 @@
 -- The frames of given owners and words.
-use Rattle.std.proofs.Common.{◌≡◌, ℕ, zero, suc, ◌<◌, List, [], ◌∷◌, length, set, get_or, replicate, refl, sym, ap, arith}
+use Rattle.std.proofs.Common.{◌≡◌, ℕ, zero, suc, ◌<◌, List, [], ◌∷◌, length, set, get_or, replicate, refl, sym, ap, ◌∙◌, subst, arith}
 use Rattle.neph_pool.specs.declared.owners.Owners.{Owners}
 use Rattle.neph_pool.specs.declared.owners.Owners.TheVariants.{Spare}
 use Rattle.neph_pool.specs.Page.{blank_page}
-use Rattle.neph_pool.specs.Frames.{PlainFrame, blank_frame, frame_at, frames_in}
+use Rattle.neph_pool.specs.Frames.{PlainFrame, blank_frame, frame_at, frames_in, FrameStep}
+use Rattle.neph_pool.specs.Holders.{OwnersStep}
 
 pub shown_length : (os : List Owners) (ws : List (List ℕ)) → length (frames_in os ws) ≡ length os
 unfolding frames_in
@@ -54,3 +55,12 @@ shown_holder (x ∷ os) [] zero = refl
 shown_holder (x ∷ os) [] (suc f) = shown_holder os [] f
 shown_holder (x ∷ os) (w ∷ ws) zero = refl
 shown_holder (x ∷ os) (w ∷ ws) (suc f) = shown_holder os ws f
+
+-- the owners of one frame changed
+pub shown_step : (IsStep : Owners → Owners → Type 0) (os ns : List Owners) (ws : List (List ℕ)) (xs : List PlainFrame) (f : ℕ) → frames_in os ws ≡ xs → OwnersStep IsStep os f ns → FrameStep IsStep xs f (frames_in ns ws)
+shown_step IsStep os ns ws xs f e s =
+    subst (λ (ys : List PlainFrame). FrameStep IsStep ys f (frames_in ns ws)) e
+    (s.0, ap (λ (ks : List Owners). frames_in ks ws) s.1 ∙ shown_put os ws f s.0, subst (λ (o : Owners). IsStep o s.0) (sym (shown_holder os ws f)) s.2)
+
+pub owners_shown : (os : List Owners) (ws : List (List ℕ)) (xs : List PlainFrame) (f : ℕ) → frames_in os ws ≡ xs → (frame_at xs f).owners ≡ get_or os f (Spare 0)
+owners_shown os ws xs f e = ap (λ (ys : List PlainFrame). (frame_at ys f).owners) (sym e) ∙ shown_holder os ws f

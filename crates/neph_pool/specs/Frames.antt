@@ -1,5 +1,5 @@
 -- The frames of the plain pool, as contracts see them.
-use Rattle.std.specs.Prelude.{ℕ, List, [], ◌∷◌, slice_index_or}
+use Rattle.std.specs.Prelude.{◌≡◌, ℕ, List, [], ◌∷◌, slice_index_or, slice_set}
 use Rattle.neph_pool.specs.declared.owners.Owners.{Owners}
 use Rattle.neph_pool.specs.declared.owners.Owners.TheVariants.{Spare}
 use Rattle.neph_pool.specs.Page.{blank_page}
@@ -22,3 +22,12 @@ unfoldable pub frames_in : List Owners → List (List ℕ) → List PlainFrame
 frames_in [] ws = []
 frames_in (o ∷ os) [] = record { owners = o; words = [] } ∷ frames_in os []
 frames_in (o ∷ os) (w ∷ ws) = record { owners = o; words = w } ∷ frames_in os ws
+
+-- the frames with the owners of f changed
+abbrev pub with_owners : List PlainFrame → ℕ → Owners → List PlainFrame
+with_owners xs f o = slice_set xs f (record (frame_at xs f) { owners = o })
+
+-- the owners of the frame f alone changed, and so
+abbrev pub FrameStep : (Owners → Owners → Type 0) → List PlainFrame → ℕ → List PlainFrame → Type 0
+FrameStep IsStep xs f ys = (o : Owners) × (ys ≡ with_owners xs f o)
+    × IsStep (frame_at xs f).owners o

@@ -1,5 +1,5 @@
 -- Who holds each frame of the plain pool.
-use Rattle.std.specs.Prelude.{ℕ, List, [], ◌∷◌, map, length, slice_index_or}
+use Rattle.std.specs.Prelude.{◌≡◌, ℕ, List, [], ◌∷◌, map, length, slice_index_or, slice_set}
 use Rattle.neph_pool.specs.declared.weights.Weights.{Weights}
 use Rattle.neph_pool.specs.declared.owners.Owners.{Owners}
 use Rattle.neph_pool.specs.declared.owners.Owners.TheVariants.{Spare, Alone, Many}
@@ -30,3 +30,7 @@ owners_of h = owners_in (shared_of h.counts.items) h.kinds.items h.places.items
 
 abbrev pub holder_count : Holders → ℕ
 holder_count h = length h.kinds.items
+
+-- the owners of the frame f alone changed, and so
+abbrev pub OwnersStep : (Owners → Owners → Type 0) → List Owners → ℕ → List Owners → Type 0
+OwnersStep IsStep os f ns = (o : Owners) × (ns ≡ slice_set os f o) × IsStep (owner_at os f) o

@@ -3,7 +3,7 @@ use crate::holders::Holders;
 use crate::owners::Owners;
 use crate::pages::Pages;
 use crate::pool::FRAME_WORDS;
-use neph_base::{MAX_FRAMES, NoMemory};
+use neph_base::{IDS, MAX_FRAMES, NoMemory};
 use std::alloc::Global;
 use std::marker::Model;
 
@@ -29,8 +29,10 @@ impl Model for Frames {
 }
 
 impl Frames {
-    ghost use Rattle.std.specs.Prelude.{◌≡◌, ◌<◌, ◌≤◌, length, replicate, slice_index, slice_set, IfOk};
-    ghost use Rattle.neph_pool.specs.Frames.{blank_frame, frame_at};
+    ghost use Rattle.std.specs.Prelude.{◌≡◌, ◌≢◌, ◌<◌, ◌≤◌, true, false, None, length, replicate, slice_index, slice_set, IfOk};
+    ghost use Rattle.neph_pool.specs.Entries.{weight_of, is_here, is_whole};
+    ghost use Rattle.neph_pool.specs.Frames.{blank_frame, frame_at, FrameStep};
+    ghost use Rattle.neph_pool.specs.Owners.{held_by, total_of, IsShared, IsReleased, IsHanded};
     ghost use Rattle.neph_pool.specs.Page.{blank_page};
 
     /// So many frames of zeros, which row 0 keeps.
@@ -65,6 +67,56 @@ impl Frames {
             ≡ slice_set self.old f (record (frame_at self.old f) { owners = owners }) }
     {
         self.holders.put(f, owners);
+    }
+
+    /// How many references of the frame `f` there are.
+    pub fn total(&self, f: usize) -> u32
+        requires { f < length self.now }
+        ensures { result ≡ total_of (frame_at self.now f).owners }
+    {
+        self.holders.total(f)
+    }
+
+    /// Whether the row has something of the frame `f`.
+    pub fn holds(&self, f: usize, row: u8) -> bool
+        requires frame { f < length self.now }
+        requires row { row < IDS }
+        ensures { result ≡ is_here (held_by row (frame_at self.now f).owners) }
+    {
+        self.holders.holds(f, row)
+    }
+
+    /// A second reference of the row's one of the frame `f`.
+    pub fn share(&mut self, f: usize, row: u8)
+        requires frame { f < length self.old }
+        requires row { row < IDS }
+        requires once { weight_of (held_by row (frame_at self.old f).owners) ≡ 1 }
+        ensures { FrameStep (IsShared row) self.old f self.new }
+    {
+        self.holders.share(f, row);
+    }
+
+    /// The row's one reference of the frame `f` goes. True where it was the last.
+    pub fn release(&mut self, f: usize, row: u8) -> bool
+        requires frame { f < length self.old }
+        requires row { row < IDS }
+        requires once { weight_of (held_by row (frame_at self.old f).owners) ≡ 1 }
+        ensures { FrameStep (IsReleased result row) self.old f self.new }
+    {
+        self.holders.release(f, row)
+    }
+
+    /// One reference of the frame `f` goes from a row to another. A frame of one row alone goes as
+    /// it is.
+    pub fn hand(&mut self, f: usize, from: u8, to: u8)
+        requires frame { f < length self.old }
+        requires rows { (from < IDS) × (to < IDS) × (from ≢ to) }
+        requires part { is_here (held_by from (frame_at self.old f).owners) ≡ true }
+        requires room { is_whole (held_by from (frame_at self.old f).owners) ≡ false
+            → held_by to (frame_at self.old f).owners ≡ None }
+        ensures { FrameStep (IsHanded from to) self.old f self.new }
+    {
+        self.holders.hand(f, from, to);
     }
 
     /// The word `w` of the frame `f`.

@@ -1,11 +1,12 @@
 // Who holds each frame, in four bytes for a frame that was never shared.
-ghost use Rattle.std.specs.Prelude.{◌≡◌, ◌≢◌, ◌+◌, ◌<◌, ◌≤◌, ℕ, length, slice_index, slice_set, replicate, vec_len, vec_capacity, IfOk};
+ghost use Rattle.std.specs.Prelude.{◌≡◌, ◌≢◌, ◌+◌, ◌<◌, ◌≤◌, ℕ, length, slice_index, slice_index_or, slice_set, replicate, vec_len, vec_capacity, IfOk};
+ghost use Rattle.neph_pool.specs.declared.kind.Kind.TheVariants.{Kept, Shared};
 ghost use Rattle.neph_pool.specs.Page.{unmade};
 
 use crate::kind::Kind;
 use crate::owners::Owners;
 use crate::weights::Weights;
-use neph_base::{MAX_FRAMES, NoMemory};
+use neph_base::{IDS, MAX_FRAMES, NoMemory};
 use std::alloc::Global;
 
 /// Who holds each frame. A frame that was shared once keeps a place for its counts. Before that its
@@ -17,6 +18,8 @@ pub struct Holders {
     counts: Vec<Weights>,
     pub ghost even: { length kinds.items ≡ length places.items },
     pub ghost within: { (f : ℕ) → slice_index places.items f < vec_len counts },
+    pub ghost placed: { (f : ℕ) → slice_index_or kinds.items f (Kept 0) ≡ Shared
+        → slice_index places.items f ≢ 0 },
     pub ghost apart: { (f g : ℕ) → f ≢ g
         → slice_index places.items f ≡ slice_index places.items g
         → slice_index places.items f ≡ 0 },
@@ -26,8 +29,11 @@ pub struct Holders {
 }
 
 impl Holders {
-    ghost use Rattle.std.specs.Prelude.{◌≡◌, ◌<◌, ◌≤◌, replicate, slice_set, IfOk};
-    ghost use Rattle.neph_pool.specs.Holders.{owners_of, holder_count, owner_at};
+    ghost use Rattle.std.specs.Prelude.{◌≡◌, ◌≢◌, ◌<◌, ◌≤◌, true, false, None, replicate, slice_index_or, slice_set, IfOk};
+    ghost use Rattle.neph_pool.specs.Entries.{weight_of, is_here, is_whole};
+    ghost use Rattle.neph_pool.specs.Holders.{owners_of, holder_count, owner_at, OwnersStep};
+    ghost use Rattle.neph_pool.specs.Owners.{held_by, total_of, IsShared, IsReleased, IsHanded};
+    ghost use Rattle.neph_pool.specs.declared.kind.Kind.TheVariants.{Kept, Shared};
     ghost use Rattle.neph_pool.specs.declared.owners.Owners.TheVariants.{Spare, Many};
 
     /// So many frames, which row 0 keeps.
@@ -96,6 +102,108 @@ impl Holders {
             Owners::Spare(row) => self.kinds[f] = Kind::Kept(row),
             Owners::Alone(row) => self.kinds[f] = Kind::Own(row),
             Owners::Many(weights) => self.put_weights(f, weights),
+        }
+    }
+    /// How many references of the frame `f` there are.
+    pub fn total(&self, f: usize) -> u32
+        requires { f < holder_count self.now }
+        ensures { result ≡ total_of (owner_at (owners_of self.now) f) }
+    {
+        match self.kinds[f] {
+            Kind::Kept(_) => 0,
+            Kind::Own(_) => 1,
+            Kind::Shared => self.counts[self.places[f] as usize].total(),
+        }
+    }
+
+    /// Whether the row has something of the frame `f`.
+    pub fn holds(&self, f: usize, row: u8) -> bool
+        requires frame { f < holder_count self.now }
+        requires row { row < IDS }
+        ensures { result ≡ is_here (held_by row (owner_at (owners_of self.now) f)) }
+    {
+        match self.kinds[f] {
+            Kind::Kept(own) => own == row,
+            Kind::Own(own) => own == row,
+            Kind::Shared => self.counts[self.places[f] as usize].at(row) > 0,
+        }
+    }
+
+    /// A second reference of the row's one of the frame `f`.
+    pub fn share(&mut self, f: usize, row: u8)
+        requires frame { f < holder_count self.old }
+        requires row { row < IDS }
+        requires once { weight_of (held_by row (owner_at (owners_of self.old) f)) ≡ 1 }
+        ensures owners { OwnersStep (IsShared row) (owners_of self.old) f (owners_of self.new) }
+        ensures frames { holder_count self.new ≡ holder_count self.old }
+    {
+        match self.kinds[f] {
+            Kind::Kept(_) => {}
+            Kind::Own(_) => self.put_weights(f, Weights::two(row)),
+            Kind::Shared => {
+                let place = self.places[f] as usize;
+                self.counts[place].share(row);
+            }
+        }
+    }
+
+    // The row's one reference of a frame with counts goes. True where it was the last.
+    fn release_counted(&mut self, f: usize, row: u8) -> bool
+        requires frame { f < holder_count self.old }
+        requires row { row < IDS }
+        requires shared { slice_index_or self.old.kinds.items f (Kept 0) ≡ Shared }
+        requires once { weight_of (held_by row (owner_at (owners_of self.old) f)) ≡ 1 }
+        ensures owners { OwnersStep (IsReleased result row) (owners_of self.old) f
+            (owners_of self.new) }
+        ensures frames { holder_count self.new ≡ holder_count self.old }
+    {
+        let place = self.places[f] as usize;
+        if self.counts[place].total() == 1 {
+            self.kinds[f] = Kind::Kept(row);
+            return true;
+        }
+        self.counts[place].release(row);
+        false
+    }
+
+    /// The row's one reference of the frame `f` goes. True where it was the last.
+    pub fn release(&mut self, f: usize, row: u8) -> bool
+        requires frame { f < holder_count self.old }
+        requires row { row < IDS }
+        requires once { weight_of (held_by row (owner_at (owners_of self.old) f)) ≡ 1 }
+        ensures owners { OwnersStep (IsReleased result row) (owners_of self.old) f
+            (owners_of self.new) }
+        ensures frames { holder_count self.new ≡ holder_count self.old }
+    {
+        match self.kinds[f] {
+            Kind::Kept(_) => false,
+            Kind::Own(_) => {
+                self.kinds[f] = Kind::Kept(row);
+                true
+            }
+            Kind::Shared => self.release_counted(f, row),
+        }
+    }
+
+    /// One reference of the frame `f` goes from a row to another. A frame of one row alone goes as
+    /// it is.
+    pub fn hand(&mut self, f: usize, from: u8, to: u8)
+        requires frame { f < holder_count self.old }
+        requires rows { (from < IDS) × (to < IDS) × (from ≢ to) }
+        requires part { is_here (held_by from (owner_at (owners_of self.old) f)) ≡ true }
+        requires room { is_whole (held_by from (owner_at (owners_of self.old) f)) ≡ false
+            → held_by to (owner_at (owners_of self.old) f) ≡ None }
+        ensures owners { OwnersStep (IsHanded from to) (owners_of self.old) f
+            (owners_of self.new) }
+        ensures frames { holder_count self.new ≡ holder_count self.old }
+    {
+        match self.kinds[f] {
+            Kind::Kept(_) => self.kinds[f] = Kind::Kept(to),
+            Kind::Own(_) => self.kinds[f] = Kind::Own(to),
+            Kind::Shared => {
+                let place = self.places[f] as usize;
+                self.counts[place].hand(from, to);
+            }
         }
     }
 }

@@ -66,7 +66,7 @@ impl PlainPool {
         ensures sums { (seats : List (Option PlainSeat)) → AreAllSeats plain_world self.now seats
             → AreCounted plain_world self.now seats }
     {
-        self.frames.owners(f.get() as usize).total()
+        self.frames.total(f.get() as usize)
     }
 
     /// Gives the pool up. Its number of shares goes to the tally.
@@ -110,6 +110,12 @@ impl FramePool for PlainPool {
         self.frames.copy(source, target);
     }
 
+    fn copy_across(&mut self, from: &mut PlainSeat, to: &mut PlainSeat, f: FrameNo, t: FrameNo) {
+        let place = f.get() as usize;
+        let other = t.get() as usize;
+        self.frames.copy(place, other);
+    }
+
     fn look(&mut self, s: &mut PlainSeat, f: FrameNo) -> bool {
         let place = f.get() as usize;
         let mut owners = self.frames.owners(place);
@@ -120,18 +126,14 @@ impl FramePool for PlainPool {
 
     fn share(&mut self, s: &mut PlainSeat, f: FrameNo) {
         let place = f.get() as usize;
-        let mut owners = self.frames.owners(place);
-        owners.share(s.row);
-        self.frames.put_owners(place, owners);
+        self.frames.share(place, s.row);
         self.shares = self.shares.saturating_add(1);
     }
 
     fn release(&mut self, s: &mut PlainSeat, f: FrameNo) -> bool {
         let place = f.get() as usize;
-        let mut owners = self.frames.owners(place);
-        s.met = owners.total();
-        let last = owners.release(s.row);
-        self.frames.put_owners(place, owners);
+        s.met = self.frames.total(place);
+        let last = self.frames.release(place, s.row);
         recount(&mut self.held, s.row, true, last);
         last
     }
@@ -146,11 +148,9 @@ impl FramePool for PlainPool {
     fn hand(&mut self, from: &mut PlainSeat, to: &mut PlainSeat, part: &[FrameNo]) {
         for f in part {
             let place = f.get() as usize;
-            let mut owners = self.frames.owners(place);
-            let had = owners.holds(to.row);
-            owners.hand(from.row, to.row);
-            let has = owners.holds(from.row);
-            self.frames.put_owners(place, owners);
+            let had = self.frames.holds(place, to.row);
+            self.frames.hand(place, from.row, to.row);
+            let has = self.frames.holds(place, from.row);
             recount(&mut self.held, from.row, true, has);
             recount(&mut self.held, to.row, had, true);
         }

@@ -69,6 +69,27 @@ pub trait FramePool {
         ensures moves { Moves world self.old s.old self.new s.new }
         ensures counts { SameCounts world self.old self.new };
 
+    /// The frame `t`, which the second seat has to itself, gets the words of the frame `f`, of
+    /// which the first seat holds a reference. What the first seat has to itself the second lacks.
+    fn copy_across(&mut self, from: &mut Self::Seat, to: &mut Self::Seat, f: FrameNo, t: FrameNo)
+        requires from { IsSeat world self.old from.old }
+        requires to { IsSeat world self.old to.old }
+        requires apart { IsApart (world.names from.old) (world.names to.old) }
+        requires source { IsHeldAt (world.entries self.old from.old) f }
+        requires target { IsSoleAt (world.entries self.old to.old) t }
+        ensures kept { world.entries self.new from.new ≡ world.entries self.old from.old }
+        ensures alone { (g : ℕ) → IsSoleAt (world.entries self.old from.old) g
+            → hold_at (world.entries self.old to.old) g ≡ None }
+        ensures copied { world.entries self.new to.new ≡ with_words (world.entries self.old to.old)
+            t (words_at (world.entries self.old from.old) f) }
+        ensures met { (world.met from.new ≡ world.met from.old)
+            × (world.met to.new ≡ world.met to.old) }
+        ensures from { Stays world self.new from.old from.new }
+        ensures to { Stays world self.new to.old to.new }
+        ensures others { Spares world (both_names (world.names from.old) (world.names to.old))
+            self.old self.new }
+        ensures counts { SameCounts world self.old self.new };
+
     /// Whether the seat's one reference of the frame is the only one. If so, the seat has it to
     /// itself from then on.
     fn look(&mut self, s: &mut Self::Seat, f: FrameNo) -> bool

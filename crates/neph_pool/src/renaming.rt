@@ -39,8 +39,8 @@ fn rename_at(frames: &mut Frames, f: usize, from: u8, to: u8) -> bool
         → held_by r (frame_at frames.new f).owners ≡ held_by r (frame_at frames.old f).owners }
     ensures total { total_at (frame_at frames.new f) ≡ total_at (frame_at frames.old f) }
 {
-    let mut owners = frames.owners(f);
-    if owners.holds(from) {
+    if frames.holds(f, from) {
+        let mut owners = frames.owners(f);
         owners.rename(from, to);
         frames.put_owners(f, owners);
         return true;

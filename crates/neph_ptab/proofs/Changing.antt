@@ -175,11 +175,16 @@ module _ (es : List (Option Entry)) (root : ℕ) (sole : IsSoleAt es root) where
     either = λ i f w li lw e. absurd (no_leaf i f e);
   }
 
--- a new leaf, in a frame of zeros that is no table yet
+-- a word of a leaf
+abbrev pub IsEntry : ℕ → Type 0
+IsEntry x = (x ≡ walk_word (walk_in x)) × InRange (walk_in x) × NotBoth (walk_in x)
+
+-- a new leaf of these words, in a frame that is no table yet
 module _ (es : List (Option Entry)) (root : ℕ) (t : IsTables es root) (at : ℕ) (la : at < 512) (needed : leaf_at es root at ≡ None) (frame : ℕ) (small : frame < 16384) (sole : IsSoleAt es frame)
-    (off : frame ≢ root) (fresh : (i : ℕ) → i < 512 → leaf_at es root i ≢ Some frame) (long : length (words_at es root) ≡ 512) where
+    (off : frame ≢ root) (fresh : (i : ℕ) → i < 512 → leaf_at es root i ≢ Some frame) (long : length (words_at es root) ≡ 512)
+    (ws : List ℕ) (good : (w : ℕ) → w < 512 → IsEntry (get_or ws w 0)) where
   abbrev zs : List (Option Entry)
-  zs = with_words es frame zero_words
+  zs = with_words es frame ws
 
   abbrev ls : List (Option Entry)
   ls = with_word zs root at (root_word (Some frame))
@@ -190,8 +195,8 @@ module _ (es : List (Option Entry)) (root : ℕ) (t : IsTables es root) (at : �
 
   aside : IsBeside es zs root
   aside = record {
-    holds = λ f i. hold_at-with_words es frame zero_words f;
-    words = λ f i. words_at-with_words_other es frame zero_words f (no_table f i);
+    holds = λ f i. hold_at-with_words es frame ws f;
+    words = λ f i. words_at-with_words_other es frame ws f (no_table f i);
   }
 
   -- the tables before the root's entry is written
@@ -201,14 +206,14 @@ module _ (es : List (Option Entry)) (root : ℕ) (t : IsTables es root) (at : �
   z_leaves : (i : ℕ) → leaf_at zs root i ≡ leaf_at es root i
   z_leaves i = leaves_stay es zs root t aside i
 
-  pub leaf_sole : IsSoleAt zs root
-  leaf_sole = zt.top
+  pub filled_sole : IsSoleAt zs root
+  filled_sole = zt.top
 
   root_here : is_here (hold_at zs root) ≡ true
   root_here = ap is_here zt.top
 
   z_long : length (words_at zs root) ≡ 512
-  z_long = ap (λ (ws : List ℕ). length ws) (words_at-with_words_other es frame zero_words root (λ q. off (sym q))) ∙ long
+  z_long = ap (λ (xs : List ℕ). length xs) (words_at-with_words_other es frame ws root (λ q. off (sym q))) ∙ long
 
   l_holds : (f : ℕ) → hold_at ls f ≡ hold_at zs f
   l_holds f = hold_at-with_words zs root _ f
@@ -220,10 +225,10 @@ module _ (es : List (Option Entry)) (root : ℕ) (t : IsTables es root) (at : �
   l_root = words_at-with_words zs root _ root_here
 
   l_at : word_at ls root at ≡ root_word (Some frame)
-  l_at = ap (λ (ws : List ℕ). get_or ws at 0) l_root ∙ get_or-set_same (words_at zs root) at _ 0 (omega (arith, z_long))
+  l_at = ap (λ (xs : List ℕ). get_or xs at 0) l_root ∙ get_or-set_same (words_at zs root) at _ 0 (omega (arith, z_long))
 
   l_else : (i : ℕ) → i ≢ at → word_at ls root i ≡ word_at zs root i
-  l_else i n = ap (λ (ws : List ℕ). get_or ws i 0) l_root ∙ get_or-set_other (words_at zs root) at i _ 0 n
+  l_else i n = ap (λ (xs : List ℕ). get_or xs i 0) l_root ∙ get_or-set_other (words_at zs root) at i _ 0 n
 
   named : leaf_at ls root at ≡ Some frame
   named = ap leaf_in l_at ∙ leaf_back (Some frame) (λ f e. subst (λ (k : ℕ). k < 16384) (some_same frame f e) small)
@@ -232,8 +237,8 @@ module _ (es : List (Option Entry)) (root : ℕ) (t : IsTables es root) (at : �
   other i n = ap leaf_in (l_else i n)
 
   -- a word of the new leaf
-  empty : (w : ℕ) → word_at ls frame w ≡ 0
-  empty w = ap (λ (ws : List ℕ). get_or ws w 0) (l_words frame off ∙ words_at-with_words es frame zero_words (ap is_here sole)) ∙ zero_at w
+  filled : (w : ℕ) → word_at ls frame w ≡ get_or ws w 0
+  filled w = ap (λ (xs : List ℕ). get_or xs w 0) (l_words frame off ∙ words_at-with_words es frame ws (ap is_here sole))
 
   -- a leaf is the new one, or an old one
   which : (i f : ℕ) → i < 512 → leaf_at ls root i ≡ Some f → ((i ≡ at) × (f ≡ frame)) ⊎ ((i ≢ at) × (leaf_at zs root i ≡ Some f) × (f ≢ frame))
@@ -245,17 +250,17 @@ module _ (es : List (Option Entry)) (root : ℕ) (t : IsTables es root) (at : �
   ]
 
   old_word : (i f w : ℕ) → i < 512 → leaf_at zs root i ≡ Some f → word_at ls f w ≡ word_at zs f w
-  old_word i f w li e = ap (λ (ws : List ℕ). get_or ws w 0) (l_words f (zt.below i f li e))
+  old_word i f w li e = ap (λ (xs : List ℕ). get_or xs w 0) (l_words f (zt.below i f li e))
 
-  pub leaf_stands : IsTables ls root
-  leaf_stands = record {
+  pub filled_stands : IsTables ls root
+  filled_stands = record {
     top = l_holds root ∙ zt.top;
     entries = λ i lt. elim (same_or_not i at) [
       | inl q ↦ rw q (l_at ∙ ap root_word (sym named))
       | inr n ↦ l_else i n ∙ zt.entries i lt ∙ ap root_word (sym (other i n))
     ];
     leaves = λ i f li e. elim (which i f li e) [
-      | inl x ↦ rw x.1 (l_holds frame ∙ hold_at-with_words es frame zero_words frame ∙ sole)
+      | inl x ↦ rw x.1 (l_holds frame ∙ hold_at-with_words es frame ws frame ∙ sole)
       | inr x ↦ l_holds f ∙ zt.leaves i f li x.1
     ];
     numbers = λ i f li e. elim (which i f li e) [ inl x ↦ rw x.1 small | inr x ↦ zt.numbers i f li x.1 ];
@@ -265,27 +270,27 @@ module _ (es : List (Option Entry)) (root : ℕ) (t : IsTables es root) (at : �
       | inr x ↦ elim (which j f lj d) [ inl y ↦ absurd (x.2 y.1) | inr y ↦ zt.apart i j f li lj x.1 y.1 ]
     ];
     words = λ i f w li lw e. elim (which i f li e) [
-      | inl x ↦ rw (x.1, empty w) refl
+      | inl x ↦ rw (x.1, filled w) (good w lw).0
       | inr x ↦ rw (old_word i f w li x.1) (zt.words i f w li lw x.1)
     ];
     ranges = λ i f w li lw e. elim (which i f li e) [
-      | inl x ↦ rw (x.1, empty w) tt
+      | inl x ↦ rw (x.1, filled w) (good w lw).1
       | inr x ↦ rw (old_word i f w li x.1) (zt.ranges i f w li lw x.1)
     ];
     either = λ i f w li lw e. elim (which i f li e) [
-      | inl x ↦ rw (x.1, empty w) tt
+      | inl x ↦ rw (x.1, filled w) (good w lw).2
       | inr x ↦ rw (old_word i f w li x.1) (zt.either i f w li lw x.1)
     ];
   }
 
-  pub leaf_holds : (f : ℕ) → hold_at ls f ≡ hold_at es f
-  leaf_holds f = l_holds f ∙ hold_at-with_words es frame zero_words f
+  pub filled_holds : (f : ℕ) → hold_at ls f ≡ hold_at es f
+  filled_holds f = l_holds f ∙ hold_at-with_words es frame ws f
 
-  pub leaf_words : (f : ℕ) → f ≢ root → f ≢ frame → words_at ls f ≡ words_at es f
-  leaf_words f n m = l_words f n ∙ words_at-with_words_other es frame zero_words f m
+  pub filled_words : (f : ℕ) → f ≢ root → f ≢ frame → words_at ls f ≡ words_at es f
+  filled_words f n m = l_words f n ∙ words_at-with_words_other es frame ws f m
 
-  pub leaf_leaves : (i : ℕ) → leaf_at ls root i ≡ (if i == at then Some frame else leaf_at es root i)
-  leaf_leaves i = elim (same_or_not i at) [
+  pub filled_leaves : (i : ℕ) → leaf_at ls root i ≡ (if i == at then Some frame else leaf_at es root i)
+  filled_leaves i = elim (same_or_not i at) [
     | inl q ↦ rw (eq-eqb i at q) (ap (λ (k : ℕ). leaf_at ls root k) q ∙ named)
     | inr n ↦ rw (ne_eqb i at n) (other i n ∙ z_leaves i)
   ]
@@ -294,14 +299,47 @@ module _ (es : List (Option Entry)) (root : ℕ) (t : IsTables es root) (at : �
   walk_old i w li n None e = refl
   walk_old i w li n (Some f) e = ap walk_in (old_word i f w li e)
 
-  pub leaf_walks : (u : ℕ) → u < 2 ^ 18 → walk_at ls root u ≡ walk_at es root u
-  leaf_walks u h = elim (same_or_not (u / 512) at) [
+  pub filled_walks : (u : ℕ) → u < 2 ^ 18 → walk_at ls root u ≡ (if u / 512 == at then walk_in (get_or ws (u % 512) 0) else walk_at es root u)
+  filled_walks u h = elim (same_or_not (u / 512) at) [
     | inl q ↦
-        ap (λ (o : Option ℕ). walk_by ls o (u % 512)) (ap (λ (k : ℕ). leaf_at ls root k) q ∙ named) ∙ ap walk_in (empty (u % 512))
-        ∙ sym (ap (λ (o : Option ℕ). walk_by es o (u % 512)) (ap (λ (k : ℕ). leaf_at es root k) q ∙ needed))
+        rw (eq-eqb (u / 512) at q)
+        (ap (λ (o : Option ℕ). walk_by ls o (u % 512)) (ap (λ (k : ℕ). leaf_at ls root k) q ∙ named) ∙ ap walk_in (filled (u % 512)))
     | inr n ↦
-        ap (λ (o : Option ℕ). walk_by ls o (u % 512)) (other (u / 512) n) ∙ walk_old (u / 512) (u % 512) (place_small u h) n (leaf_at zs root (u / 512)) refl
-        ∙ walks_stay es zs root t aside u h
+        rw (ne_eqb (u / 512) at n)
+        (ap (λ (o : Option ℕ). walk_by ls o (u % 512)) (other (u / 512) n) ∙ walk_old (u / 512) (u % 512) (place_small u h) n (leaf_at zs root (u / 512)) refl
+        ∙ walks_stay es zs root t aside u h)
+  ]
+
+zero_entry : (w : ℕ) → w < 512 → IsEntry (get_or zero_words w 0)
+zero_entry w lt = rw (zero_at w) (refl, tt, tt)
+
+-- a new leaf of zeros
+module _ (es : List (Option Entry)) (root : ℕ) (t : IsTables es root) (at : ℕ) (la : at < 512) (needed : leaf_at es root at ≡ None) (frame : ℕ) (small : frame < 16384) (sole : IsSoleAt es frame)
+    (off : frame ≢ root) (fresh : (i : ℕ) → i < 512 → leaf_at es root i ≢ Some frame) (long : length (words_at es root) ≡ 512) where
+  abbrev es' : List (Option Entry)
+  es' = with_word (with_words es frame zero_words) root at (root_word (Some frame))
+
+  pub leaf_sole : IsSoleAt (with_words es frame zero_words) root
+  leaf_sole = filled_sole es root t at la needed frame small sole off fresh long zero_words zero_entry
+
+  pub leaf_stands : IsTables es' root
+  leaf_stands = filled_stands es root t at la needed frame small sole off fresh long zero_words zero_entry
+
+  pub leaf_holds : (f : ℕ) → hold_at es' f ≡ hold_at es f
+  leaf_holds = filled_holds es root t at la needed frame small sole off fresh long zero_words zero_entry
+
+  pub leaf_words : (f : ℕ) → f ≢ root → f ≢ frame → words_at es' f ≡ words_at es f
+  leaf_words = filled_words es root t at la needed frame small sole off fresh long zero_words zero_entry
+
+  pub leaf_leaves : (i : ℕ) → leaf_at es' root i ≡ (if i == at then Some frame else leaf_at es root i)
+  leaf_leaves = filled_leaves es root t at la needed frame small sole off fresh long zero_words zero_entry
+
+  pub leaf_walks : (u : ℕ) → u < 2 ^ 18 → walk_at es' root u ≡ walk_at es root u
+  leaf_walks u h = filled_walks es root t at la needed frame small sole off fresh long zero_words zero_entry u h ∙ elim (same_or_not (u / 512) at) [
+    | inl q ↦
+        rw (eq-eqb (u / 512) at q)
+        (ap walk_in (zero_at (u % 512)) ∙ sym (ap (λ (o : Option ℕ). walk_by es o (u % 512)) (ap (λ (k : ℕ). leaf_at es root k) q ∙ needed)))
+    | inr n ↦ rw (ne_eqb (u / 512) at n) refl
   ]
 
 pub same_word : (es fs : List (Option Entry)) (f p q x y : ℕ) → es ≡ fs → p ≡ q → x ≡ y → with_word es f p x ≡ with_word fs f q y

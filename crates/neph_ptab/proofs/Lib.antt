@@ -2,3 +2,4 @@ pub mod Spelling
 pub mod Zeros
 pub mod Changing
 pub mod Retabling
+pub mod Copying

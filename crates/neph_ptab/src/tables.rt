@@ -1,7 +1,8 @@
 // The tables of a domain.
 ghost use Rattle.std.specs.Prelude.{◌≡◌, ◌≢◌, ◌==◌, ◌/◌, ◌%◌, ◌^◌, ◌<◌, ◌↔◌, ℕ, true, IsTrue, IsSome, IfSome, MatchOption, if◌then◌else◌, Some, None};
 ghost use Rattle.neph_pool.specs.Entries.{hold_at, words_at, with_word, with_words, IsHeldAt, IsSoleAt};
-ghost use Rattle.neph_pool.specs.World.{World, IsSeat, Moves, SameCounts};
+ghost use Rattle.neph_pool.specs.Names.{IsApart, both_names};
+ghost use Rattle.neph_pool.specs.World.{World, IsSeat, Moves, Stays, Spares, SameCounts};
 ghost use Rattle.neph_ptab.specs.Bits.{root_word, walk_word, NotBoth};
 ghost use Rattle.neph_ptab.specs.Moves.{IsLocal, moved_walk, is_shown, walk_moved};
 ghost use Rattle.neph_ptab.specs.Tables.{leaf_at, walk_at, IsTables, IsRetabled, zero_words};
@@ -147,6 +148,59 @@ impl<P: FramePool> Tables<P> {
     {
         wipe(pool, seat, frame);
         pool.write(seat, self.root, root_place(v), root_word(frame));
+    }
+
+    /// Makes a leaf table, in this frame, where one is missing: a copy of the one that other tables
+    /// have there, in another seat. What that seat has to itself this one lacks.
+    pub fn copy_leaf(
+        &mut self,
+        pool: &mut P,
+        seat: &mut P::Seat,
+        other: &Tables<P>,
+        from: &mut P::Seat,
+        i: u16,
+        frame: FrameNo,
+    )
+        requires seat { IsSeat P.world pool.old seat.old }
+        requires from { IsSeat P.world pool.old from.old }
+        requires apart { IsApart (P.world.names from.old) (P.world.names seat.old) }
+        requires stands { IsTables (P.world.entries pool.old seat.old) self.old.root }
+        requires source { IsTables (P.world.entries pool.old from.old) other.now.root }
+        requires place { i < TABLE_ENTRIES }
+        requires there { IsSome (leaf_at (P.world.entries pool.old from.old) other.now.root i) }
+        requires needed { leaf_at (P.world.entries pool.old seat.old) self.old.root i ≡ None }
+        requires frame { IsSoleAt (P.world.entries pool.old seat.old) frame }
+        requires root { frame ≢ self.old.root }
+        requires new { (j : ℕ) → j < TABLE_ENTRIES
+            → leaf_at (P.world.entries pool.old seat.old) self.old.root j ≢ Some frame }
+        ensures root { self.new.root ≡ self.old.root }
+        ensures kept { P.world.entries pool.new from.new ≡ P.world.entries pool.old from.old }
+        ensures alone { (g : ℕ) → IsSoleAt (P.world.entries pool.old from.old) g
+            → hold_at (P.world.entries pool.old seat.old) g ≡ None }
+        ensures leaves { (j : ℕ) → j < TABLE_ENTRIES
+            → leaf_at (P.world.entries pool.new seat.new) self.old.root j
+            ≡ (if j == i then Some frame
+            else leaf_at (P.world.entries pool.old seat.old) self.old.root j) }
+        ensures walks { (u : ℕ) → u < 2 ^ 18
+            → walk_at (P.world.entries pool.new seat.new) self.old.root u
+            ≡ (if u / TABLE_ENTRIES == i
+            then walk_at (P.world.entries pool.old from.old) other.now.root u
+            else walk_at (P.world.entries pool.old seat.old) self.old.root u) }
+        ensures holds { (f : ℕ) → hold_at (P.world.entries pool.new seat.new) f
+            ≡ hold_at (P.world.entries pool.old seat.old) f }
+        ensures words { (f : ℕ) → f ≢ self.old.root → f ≢ frame
+            → words_at (P.world.entries pool.new seat.new) f
+            ≡ words_at (P.world.entries pool.old seat.old) f }
+        ensures stands { IsTables (P.world.entries pool.new seat.new) self.old.root }
+        ensures from { Stays P.world pool.new from.old from.new }
+        ensures seat { Stays P.world pool.new seat.old seat.new }
+        ensures others { Spares P.world (both_names (P.world.names from.old)
+            (P.world.names seat.old)) pool.old pool.new }
+        ensures counts { SameCounts P.world pool.old pool.new }
+    {
+        let leaf = other.nth_leaf(pool, from, i).unwrap();
+        pool.copy_across(from, seat, leaf, frame);
+        pool.write(seat, self.root, i, root_word(frame));
     }
 
     /// Makes a virtual page lead there. Its leaf table must be there. A local page can't be both

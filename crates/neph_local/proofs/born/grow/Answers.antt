@@ -1,7 +1,5 @@
-use Rattle.std.proofs.Common.{◌≡◌, ◌^◌, ℕ, Bool, List, Vec, Global, true, false, is_some, IsSome, length, slice_get, slice_index_or, None, if◌then◌else◌, sym, ap, subst, ◌∙◌, arith}
-use Rattle.std.proofs.lemmas.Bool.{lt-ltb, le-ltb}
+use Rattle.std.proofs.Common.{◌≡◌, ℕ, Bool, List, Vec, Global, true, false, is_some, IsSome, length, slice_get, slice_index_or, sym, ap, subst, ◌∙◌}
 use Rattle.std.specs.declared.option.Option.{Option}
-use Rattle.neph_model.specs.declared.memory.Mapping.{Mapping}
 use Rattle.neph_pool.specs.declared.entry.Entry.{Entry}
 use Rattle.neph_pool.specs.Names.{only_name}
 use Rattle.neph_pool.proofs.Calls.{same_counts_trans}
@@ -10,16 +8,12 @@ use Rattle.neph_memory.specs.Pages.{frame_at}
 use Rattle.neph_memory.specs.Memory.{is_marked, leaf_count}
 use Rattle.neph_memory.proofs.Keeping.{shared_trans}
 use Rattle.neph_memory.proofs.Rooming.{room_alike}
-use Rattle.neph_memory.specs.Domains.{domain_mapping}
 use Rattle.neph_memory.proofs.Making.{builds_stands}
 use Rattle.neph_local.proofs.Starting.{number_is}
 use Rattle.neph_local.proofs.Stepping.{unchanged_stands, unchanged_mapping, unchanged_page, unchanged_leaf}
 use Rattle.neph_local.proofs.Growing.{frame_from, sprouted_same, placed_same, grown_same, grown_others, zero_or_not, some_more, one_fewer, zero_small}
 use Rattle.neph_local.proofs.Tabling.{some_given}
 use Rattle.neph_local.proofs.born.grow.Goals as goal
-
-abbrev below : Option Mapping → Bool → Option Mapping
-below x b = if b then x else None
 
 pub returns-in-Err-clause-stands : goal.returns-in-Err-clause-stands
 returns-in-Err-clause-stands g c = unchanged_stands g.P.FramePool.world c.args.pool.now c.args.d.now c.copy_tables.new.pool c.copy_tables.new.d c.requires.stands (grown_same g.P.FramePool.world c.args.pool.now c.args.d.now c.args.k.seat c.args.k.child c.requires.stands c.requires.fork.forks.names c.requires.fork.apart c.sprout-c.new.pool c.sprout-c.ensures.others c.sprout-c.result.memory (c.sprout-c.ensures.builds.names ∙ ap only_name c.sprout-c.ensures.id ∙ sym c.requires.fork.forks.names) c.place.new.pool c.place.new.d c.place.ensures.moves c.copy_tables.new.pool c.copy_tables.new.d c.copy_tables.new.c.memory c.copy_tables.ensures.step)
@@ -65,9 +59,20 @@ copy_tables-requires-clause-apart g c = λ e. c.requires.fork.apart (e ∙ c.pla
 pub copy_tables-requires-clause-count : goal.copy_tables-requires-clause-count
 copy_tables-requires-clause-count g c = c.place.ensures.count ∙ c.sprout-c.ensures.sprout.count
 
-pub copy_tables-requires-clause-maps : goal.copy_tables-requires-clause-maps
-copy_tables-requires-clause-maps g c = λ u lt.
-    c.place.ensures.mappings u lt ∙ c.sprout-c.ensures.sprout.maps u lt ∙ sym (ap (below (domain_mapping g.P.FramePool.world c.place.new.pool c.args.d.now u)) (le-ltb u 0 (omega arith)))
+pub copy_tables-requires-clause-frames : goal.copy_tables-requires-clause-frames
+copy_tables-requires-clause-frames g c = λ x le.
+    let n : c.unwrap-first.result ≡ 0 = number_is _ _ _ _ c.new.ensures c.unwrap-first.ensures in
+    frame_from c.sprout-c.result.memory.own.map.pages c.place.new.d.own.map.pages x (c.place.ensures.others x (zero_or_not x _ le n)) ∙ c.sprout-c.ensures.sprout.frames x le
+
+pub copy_tables-requires-clause-first : goal.copy_tables-requires-clause-first
+copy_tables-requires-clause-first g c =
+    let n : c.unwrap-first.result ≡ 0 = number_is _ _ _ _ c.new.ensures c.unwrap-first.ensures in
+    subst (λ (x : ℕ). IsSome (frame_at c.place.new.d.own.map.pages x)) n c.place.ensures.page
+
+pub copy_tables-requires-clause-alone : goal.copy_tables-requires-clause-alone
+copy_tables-requires-clause-alone g c =
+    let n : c.unwrap-first.result ≡ 0 = number_is _ _ _ _ c.new.ensures c.unwrap-first.ensures in
+    subst (λ (x : ℕ). is_marked c.place.new.d.own x ≡ true) n c.place.ensures.mark
 
 pub copy_tables-requires-clause-none : goal.copy_tables-requires-clause-none
 copy_tables-requires-clause-none g c = λ i lt. c.place.ensures.leaves i ∙ c.sprout-c.ensures.sprout.leaves i lt
@@ -112,7 +117,6 @@ returns-in-Ok-clause-grown g c =
     let W = g.P.FramePool.world in
     let first = sprouted_same g.P.FramePool.world c.args.pool.now c.args.d.now c.args.k.seat c.args.k.child c.requires.stands c.requires.fork.forks.names c.requires.fork.apart c.sprout-c.new.pool c.sprout-c.ensures.others in
     let mid = placed_same g.P.FramePool.world c.args.pool.now c.args.d.now c.args.k.seat c.args.k.child c.requires.stands c.requires.fork.forks.names c.requires.fork.apart c.sprout-c.new.pool c.sprout-c.ensures.others c.sprout-c.result.memory (c.sprout-c.ensures.builds.names ∙ ap only_name c.sprout-c.ensures.id ∙ sym c.requires.fork.forks.names) c.place.new.pool c.place.new.d c.place.ensures.moves in
-    let all = grown_same g.P.FramePool.world c.args.pool.now c.args.d.now c.args.k.seat c.args.k.child c.requires.stands c.requires.fork.forks.names c.requires.fork.apart c.sprout-c.new.pool c.sprout-c.ensures.others c.sprout-c.result.memory (c.sprout-c.ensures.builds.names ∙ ap only_name c.sprout-c.ensures.id ∙ sym c.requires.fork.forks.names) c.place.new.pool c.place.new.d c.place.ensures.moves c.copy_tables.new.pool c.copy_tables.new.d c.copy_tables.new.c.memory c.copy_tables.ensures.step in
     let sp = c.sprout-c.ensures.sprout in
     let n : c.unwrap-first.result ≡ 0 = number_is _ _ _ _ c.new.ensures c.unwrap-first.ensures in
     let k = c.copy_tables.new.c.memory in record {
@@ -120,8 +124,7 @@ returns-in-Ok-clause-grown g c =
       frames = λ x le. ap (λ (ps : List Page). frame_at ps x) c.copy_tables.ensures.pages
           ∙ frame_from c.sprout-c.result.memory.own.map.pages c.place.new.d.own.map.pages x (c.place.ensures.others x (zero_or_not x _ le n)) ∙ sp.frames x le;
       bytes = λ x le. c.in-Ok.ensures.bytes x ∙ c.place.ensures.bytes x (zero_or_not x _ le n) ∙ sp.bytes x le ∙ unchanged_page W c.args.pool.now c.args.d.now c.sprout-c.new.pool c.args.d.now first x;
-      maps = λ u lt. c.in-Ok.ensures.maps u lt ∙ ap (below (domain_mapping W c.copy_tables.new.pool c.copy_tables.new.d u)) (lt-ltb u (2 ^ 18) lt)
-          ∙ unchanged_mapping W c.args.pool.now c.args.d.now c.copy_tables.new.pool c.copy_tables.new.d all u;
+      maps = λ u lt. c.in-Ok.ensures.maps u lt ∙ unchanged_mapping W c.args.pool.now c.args.d.now c.place.new.pool c.args.d.now mid u;
       leaves = λ i lt. c.in-Ok.ensures.leaves i lt ∙ ap is_some (unchanged_leaf W c.args.pool.now c.args.d.now c.place.new.pool c.args.d.now mid i);
       alone = ap (λ (ms : Vec Bool Global). slice_index_or ms.items 0 false) c.copy_tables.ensures.marks ∙ subst (λ (x : ℕ). is_marked c.place.new.d.own x ≡ true) n c.place.ensures.mark;
       spare = c.copy_tables.ensures.spare ∙ c.place.ensures.spare ∙ c.sprout-c.ensures.spare;

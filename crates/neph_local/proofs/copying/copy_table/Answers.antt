@@ -1,116 +1,69 @@
-use Rattle.std.proofs.Common.{◌≡◌, ◌+◌, ◌*◌, ◌/◌, ℕ, true, false, is_some, None, IsSome, sym, ap, subst, ◌∙◌, arith}
+use Rattle.std.proofs.Common.{◌+◌, ◌/◌, ◌==◌, if◌then◌else◌, ℕ, List, Bool, not, is_some, inr, refl, sym, ap, subst, ◌∙◌}
 use Rattle.std.specs.declared.option.Option.{Option}
-use Rattle.neph_model.specs.declared.memory.Mapping.{Mapping}
-use Rattle.neph_memory.specs.Domains.{domain_leaf, domain_mapping}
-use Rattle.neph_local.specs.Forks.{leaf_count_of}
-use Rattle.neph_local.proofs.Starting.{number_is}
-use Rattle.neph_local.proofs.Stepping.{step_trans, below_skip, no_leaf_none, unchanged_mapping, unchanged_stands}
-use Rattle.neph_local.proofs.Tabling.{looked_builds, looked_mapping, looked_page, looked_leaf, looked_step, looked_then, leaf_one, none_is}
+use Rattle.neph_pool.specs.declared.entry.Entry.{Entry}
+use Rattle.neph_pool.specs.Entries.{hold_at}
+use Rattle.neph_pool.specs.Names.{both_names}
+use Rattle.neph_pool.specs.World.{Spares}
+use Rattle.neph_ptab.specs.Tables.{leaf_at, walk_at, IsTables}
+use Rattle.neph_memory.proofs.Building.{popped}
+use Rattle.neph_memory.proofs.Numbers.{in_last}
+use Rattle.neph_memory.specs.Building.{IsAmong}
+use Rattle.neph_local.specs.Copies.{AreCopied}
+use Rattle.neph_local.proofs.Copied.{copied_none, copied_more}
+use Rattle.neph_local.proofs.Stepping.{spares_trans, spares_left}
 use Rattle.neph_local.proofs.copying.copy_table.Goals as goal
 
-pub returns-then-not-there-clause-step : goal.returns-then-not-there-clause-step
-returns-then-not-there-clause-step g c = looked_step g.P.FramePool.world c.args.pool.now c.args.d.now c.args.c.now.memory c.args.c.now.frames.items c.requires.stands c.requires.builds c.requires.apart c.has_leaf-there.new.pool c.has_leaf-there.new.self c.has_leaf-there.ensures.moves c.has_leaf-there.ensures.same c.has_leaf-there.ensures.counts
-
-pub returns-then-not-there-clause-builds : goal.returns-then-not-there-clause-builds
-returns-then-not-there-clause-builds g c = looked_builds g.P.FramePool.world c.args.pool.now c.args.d.now c.args.c.now.memory c.args.c.now.frames.items c.requires.stands c.requires.builds c.requires.apart c.has_leaf-there.new.pool c.has_leaf-there.new.self c.has_leaf-there.ensures.moves c.has_leaf-there.ensures.same c.has_leaf-there.ensures.counts
-
-pub returns-then-not-there-clause-bytes : goal.returns-then-not-there-clause-bytes
-returns-then-not-there-clause-bytes g c = λ x. looked_page g.P.FramePool.world c.args.pool.now c.args.d.now c.args.c.now.memory c.args.c.now.frames.items c.requires.stands c.requires.builds c.requires.apart c.has_leaf-there.new.pool c.has_leaf-there.new.self c.has_leaf-there.ensures.moves c.has_leaf-there.ensures.same c.has_leaf-there.ensures.counts x
-
-pub returns-then-not-there-clause-leaf : goal.returns-then-not-there-clause-leaf
-returns-then-not-there-clause-leaf g c =
+pub returns-then-is_none-clause-copied : goal.returns-then-is_none-clause-copied
+returns-then-is_none-clause-copied g c = λ cs waits a.
     let W = g.P.FramePool.world in
-    let n = number_is _ _ _ _ c.new.ensures c.unwrap-v.ensures in
-    let at : c.unwrap-v.result / 512 ≡ c.args.i = omega (arith, n, c.from.ensures) in
-    let was : false ≡ is_some (domain_leaf W c.args.pool.now c.args.d.now c.args.i) = c.if-not-there.ensures.leaf ∙ ap (λ (k : ℕ). is_some (domain_leaf W c.args.pool.now c.args.d.now k)) at in
-    ap is_some (looked_leaf g.P.FramePool.world c.args.pool.now c.args.d.now c.args.c.now.memory c.args.c.now.frames.items c.requires.stands c.requires.builds c.requires.apart c.has_leaf-there.new.pool c.has_leaf-there.new.self c.has_leaf-there.ensures.moves c.has_leaf-there.ensures.same c.has_leaf-there.ensures.counts c.args.i ∙ c.requires.none) ∙ was
+    let es = W.entries c.args.pool.now c.args.from.now in
+    let mid = c.nth_leaf-leaf.ensures.moves.others.entries c.args.seat.now c.requires.seat.0 c.requires.apart in
+    subst (λ (fs : List (Option Entry)). AreCopied es c.args.source.now.root cs fs c.args.tables.now.root waits c.args.frames.now.items (c.args.i + 1)) (sym mid)
+    (copied_none es c.args.source.now.root cs (W.entries c.args.pool.now c.args.seat.now) c.args.tables.now.root waits c.args.frames.now.items c.args.i c.requires.place
+    (ap is_some (sym c.nth_leaf-leaf.ensures.leaf) ∙ c.is_none.ensures ∙ ap not c.if-is_none.true) a)
 
-pub returns-then-not-there-clause-leaves : goal.returns-then-not-there-clause-leaves
-returns-then-not-there-clause-leaves g c = λ j lt k. looked_leaf g.P.FramePool.world c.args.pool.now c.args.d.now c.args.c.now.memory c.args.c.now.frames.items c.requires.stands c.requires.builds c.requires.apart c.has_leaf-there.new.pool c.has_leaf-there.new.self c.has_leaf-there.ensures.moves c.has_leaf-there.ensures.same c.has_leaf-there.ensures.counts j
+pub returns-then-is_none-clause-seat : goal.returns-then-is_none-clause-seat
+returns-then-is_none-clause-seat g c = record { fits = c.nth_leaf-leaf.ensures.moves.others.fits c.args.seat.now c.requires.seat.0 c.requires.apart; names = refl }
 
-pub returns-then-not-there-clause-maps : goal.returns-then-not-there-clause-maps
-returns-then-not-there-clause-maps g c =
+pub returns-then-is_none-clause-others : goal.returns-then-is_none-clause-others
+returns-then-is_none-clause-others g c =
+    let W = g.P.FramePool.world in spares_left W (W.names c.args.from.now) (W.names c.args.seat.now) c.args.pool.now c.nth_leaf-leaf.new.pool c.nth_leaf-leaf.ensures.moves.others
+
+pub copy_leaf-requires-clause-stands : goal.copy_leaf-requires-clause-stands
+copy_leaf-requires-clause-stands g c =
+    subst (λ (fs : List (Option Entry)). IsTables fs c.args.tables.now.root) (sym (c.nth_leaf-leaf.ensures.moves.others.entries c.args.seat.now c.requires.seat.0 c.requires.apart)) c.requires.stands
+
+pub copy_leaf-requires-clause-new : goal.copy_leaf-requires-clause-new
+copy_leaf-requires-clause-new g c = λ j lt h.
+    let e = popped _ _ _ c.unwrap-frame.result c.pop.ensures.items c.unwrap-frame.ensures in
+    let took : IsAmong c.args.frames.now.items c.unwrap-frame.result = subst (λ (xs : List ℕ). IsAmong xs c.unwrap-frame.result) (sym e) (in_last c.pop.new.self.items c.unwrap-frame.result) in
+    let mid = c.nth_leaf-leaf.ensures.moves.others.entries c.args.seat.now c.requires.seat.0 c.requires.apart in
+    c.requires.free c.unwrap-frame.result took (inr (j, lt, sym (ap (λ (fs : List (Option Entry)). leaf_at fs c.args.tables.now.root j) mid) ∙ h))
+
+pub returns-clause-copied : goal.returns-clause-copied
+returns-clause-copied g c = λ cs waits a.
     let W = g.P.FramePool.world in
-    let n = number_is _ _ _ _ c.new.ensures c.unwrap-v.ensures in
-    let at : c.unwrap-v.result / 512 ≡ c.args.i = omega (arith, n, c.from.ensures) in
-    let f : ℕ → Option Mapping = domain_mapping W c.args.pool.now c.args.d.now in
-    let gone : domain_leaf W c.args.pool.now c.args.d.now c.args.i ≡ None = ap (domain_leaf W c.args.pool.now c.args.d.now) (sym at) ∙ none_is _ (sym c.if-not-there.ensures.leaf) in
-    below_skip f (domain_mapping W c.has_leaf-there.new.pool c.has_leaf-there.new.self) (domain_mapping W c.args.pool.now c.args.c.now.memory) (domain_mapping W c.has_leaf-there.new.pool c.args.c.now.memory) (512 * c.args.i) (512 * (c.args.i + 1)) (omega arith)
-    (unchanged_mapping W c.args.pool.now c.args.d.now c.has_leaf-there.new.pool c.has_leaf-there.new.self c.has_leaf-there.ensures.same) (λ u lt. looked_mapping g.P.FramePool.world c.args.pool.now c.args.d.now c.args.c.now.memory c.args.c.now.frames.items c.requires.stands c.requires.builds c.requires.apart c.has_leaf-there.new.pool c.has_leaf-there.new.self c.has_leaf-there.ensures.moves c.has_leaf-there.ensures.same c.has_leaf-there.ensures.counts u)
-    (λ u l x. let e : u / 512 ≡ c.args.i = omega (arith, l, x) in no_leaf_none _ c.args.d.now.tables.root c.args.d.now.own.map.pages u (ap (domain_leaf W c.args.pool.now c.args.d.now) e ∙ gone)) c.requires.maps
+    let es = W.entries c.args.pool.now c.args.from.now in
+    let fs = W.entries c.nth_leaf-leaf.new.pool c.args.seat.now in
+    let gs = W.entries c.copy_leaf.new.pool c.copy_leaf.new.seat in
+    let top = c.args.source.now.root in
+    let root = c.args.tables.now.root in
+    let i = c.args.i in
+    let mid = c.nth_leaf-leaf.ensures.moves.others.entries c.args.seat.now c.requires.seat.0 c.requires.apart in
+    let same = c.nth_leaf-leaf.ensures.entries in
+    copied_more es top cs fs gs root waits c.args.frames.now.items c.pop.new.self.items i c.unwrap-frame.result c.requires.place
+    (subst (λ (xs : List (Option Entry)). AreCopied es top cs xs root waits c.args.frames.now.items i) (sym mid) a)
+    (ap is_some (sym c.nth_leaf-leaf.ensures.leaf) ∙ c.is_none.ensures ∙ ap not c.if-is_none.false)
+    (popped _ _ _ c.unwrap-frame.result c.pop.ensures.items c.unwrap-frame.ensures)
+    (λ x s. c.copy_leaf.ensures.alone x (ap (λ (xs : List (Option Entry)). hold_at xs x) same ∙ s))
+    c.copy_leaf.ensures.leaves
+    (λ u lt. c.copy_leaf.ensures.walks u lt ∙ ap (λ (xs : List (Option Entry)). if u / 512 == i then walk_at xs top u else walk_at fs root u) same)
+    c.copy_leaf.ensures.holds c.copy_leaf.ensures.words c.copy_leaf.ensures.stands
 
-pub add_leaf-requires-clause-builds : goal.add_leaf-requires-clause-builds
-add_leaf-requires-clause-builds g c = looked_builds g.P.FramePool.world c.args.pool.now c.args.d.now c.args.c.now.memory c.args.c.now.frames.items c.requires.stands c.requires.builds c.requires.apart c.has_leaf-there.new.pool c.has_leaf-there.new.self c.has_leaf-there.ensures.moves c.has_leaf-there.ensures.same c.has_leaf-there.ensures.counts
-
-pub add_leaf-requires-clause-some : goal.add_leaf-requires-clause-some
-add_leaf-requires-clause-some g c =
+pub returns-clause-others : goal.returns-clause-others
+returns-clause-others g c =
     let W = g.P.FramePool.world in
-    let n = number_is _ _ _ _ c.new.ensures c.unwrap-v.ensures in
-    let at : c.unwrap-v.result / 512 ≡ c.args.i = omega (arith, n, c.from.ensures) in
-    let one : leaf_count_of (domain_leaf W c.args.pool.now c.args.d.now c.args.i) ≡ 1 = leaf_one _ (sym (c.if-not-there.ensures.leaf ∙ ap (λ (k : ℕ). is_some (domain_leaf W c.args.pool.now c.args.d.now k)) at)) in
-    omega (arith, one, c.requires.room)
-
-pub add_leaf-requires-clause-needed : goal.add_leaf-requires-clause-needed
-add_leaf-requires-clause-needed g c =
-    let n = number_is _ _ _ _ c.new.ensures c.unwrap-v.ensures in
-    let at : c.unwrap-v.result / 512 ≡ c.args.i = omega (arith, n, c.from.ensures) in
-    looked_leaf g.P.FramePool.world c.args.pool.now c.args.d.now c.args.c.now.memory c.args.c.now.frames.items c.requires.stands c.requires.builds c.requires.apart c.has_leaf-there.new.pool c.has_leaf-there.new.self c.has_leaf-there.ensures.moves c.has_leaf-there.ensures.same c.has_leaf-there.ensures.counts _ ∙ ap (domain_leaf g.P.FramePool.world c.args.pool.now c.args.c.now.memory) at ∙ c.requires.none
-
-pub copy_walks-requires-clause-stands : goal.copy_walks-requires-clause-stands
-copy_walks-requires-clause-stands g c =
-    let s = looked_then g.P.FramePool.world c.args.pool.now c.args.d.now c.args.c.now.memory c.args.c.now.frames.items c.requires.stands c.requires.builds c.requires.apart c.has_leaf-there.new.pool c.has_leaf-there.new.self c.has_leaf-there.ensures.moves c.has_leaf-there.ensures.same c.has_leaf-there.ensures.counts c.add_leaf.new.pool c.add_leaf.new.d c.add_leaf.ensures.moves c.add_leaf.ensures.id c.add_leaf.ensures.hand c.add_leaf.ensures.counts c.add_leaf.ensures.shared in
-    unchanged_stands g.P.FramePool.world c.args.pool.now c.args.d.now c.add_leaf.new.pool c.has_leaf-there.new.self c.requires.stands s.parent
-
-pub copy_walks-requires-clause-maps : goal.copy_walks-requires-clause-maps
-copy_walks-requires-clause-maps g c =
-    let W = g.P.FramePool.world in
-    let s = looked_then g.P.FramePool.world c.args.pool.now c.args.d.now c.args.c.now.memory c.args.c.now.frames.items c.requires.stands c.requires.builds c.requires.apart c.has_leaf-there.new.pool c.has_leaf-there.new.self c.has_leaf-there.ensures.moves c.has_leaf-there.ensures.same c.has_leaf-there.ensures.counts c.add_leaf.new.pool c.add_leaf.new.d c.add_leaf.ensures.moves c.add_leaf.ensures.id c.add_leaf.ensures.hand c.add_leaf.ensures.counts c.add_leaf.ensures.shared in
-    let f : ℕ → Option Mapping = domain_mapping W c.args.pool.now c.args.d.now in
-    below_skip f (domain_mapping W c.add_leaf.new.pool c.has_leaf-there.new.self) (domain_mapping W c.args.pool.now c.args.c.now.memory) (domain_mapping W c.add_leaf.new.pool c.add_leaf.new.d) (512 * c.args.i) (512 * c.args.i) (omega arith)
-    (unchanged_mapping W c.args.pool.now c.args.d.now c.add_leaf.new.pool c.has_leaf-there.new.self s.parent) (λ u lt. c.add_leaf.ensures.mappings u lt ∙ looked_mapping g.P.FramePool.world c.args.pool.now c.args.d.now c.args.c.now.memory c.args.c.now.frames.items c.requires.stands c.requires.builds c.requires.apart c.has_leaf-there.new.pool c.has_leaf-there.new.self c.has_leaf-there.ensures.moves c.has_leaf-there.ensures.same c.has_leaf-there.ensures.counts u)
-    (λ u l x. absurd (omega (arith, l, x))) c.requires.maps
-
-pub copy_walks-requires-clause-leaf : goal.copy_walks-requires-clause-leaf
-copy_walks-requires-clause-leaf g c =
-    let n = number_is _ _ _ _ c.new.ensures c.unwrap-v.ensures in
-    let at : c.unwrap-v.result / 512 ≡ c.args.i = omega (arith, n, c.from.ensures) in
-    subst (λ (k : ℕ). IsSome (domain_leaf g.P.FramePool.world c.add_leaf.new.pool c.add_leaf.new.d k)) at c.add_leaf.ensures.leaf
-
-pub returns-in_err-copy_walks-clause-step : goal.returns-in_err-copy_walks-clause-step
-returns-in_err-copy_walks-clause-step g c = step_trans g.P.FramePool.world _ _ _ _ _ _ _ _ _ (looked_then g.P.FramePool.world c.args.pool.now c.args.d.now c.args.c.now.memory c.args.c.now.frames.items c.requires.stands c.requires.builds c.requires.apart c.has_leaf-there.new.pool c.has_leaf-there.new.self c.has_leaf-there.ensures.moves c.has_leaf-there.ensures.same c.has_leaf-there.ensures.counts c.add_leaf.new.pool c.add_leaf.new.d c.add_leaf.ensures.moves c.add_leaf.ensures.id c.add_leaf.ensures.hand c.add_leaf.ensures.counts c.add_leaf.ensures.shared) c.copy_walks.ensures.step
-
-pub returns-in_err-copy_walks-clause-leaf : goal.returns-in_err-copy_walks-clause-leaf
-returns-in_err-copy_walks-clause-leaf g c =
-    let W = g.P.FramePool.world in
-    let n = number_is _ _ _ _ c.new.ensures c.unwrap-v.ensures in
-    let at : c.unwrap-v.result / 512 ≡ c.args.i = omega (arith, n, c.from.ensures) in
-    let here : is_some (domain_leaf W c.add_leaf.new.pool c.add_leaf.new.d c.args.i) ≡ true = ap (λ (k : ℕ). is_some (domain_leaf W c.add_leaf.new.pool c.add_leaf.new.d k)) (sym at) ∙ c.add_leaf.ensures.leaf in
-    let was : true ≡ is_some (domain_leaf W c.args.pool.now c.args.d.now c.args.i) = c.if-not-there.ensures.leaf ∙ ap (λ (k : ℕ). is_some (domain_leaf W c.args.pool.now c.args.d.now k)) at in
-    ap is_some (c.copy_walks.ensures.leaves c.args.i c.requires.small) ∙ here ∙ was
-
-pub returns-in_err-copy_walks-clause-leaves : goal.returns-in_err-copy_walks-clause-leaves
-returns-in_err-copy_walks-clause-leaves g c = λ j lt k.
-    let n = number_is _ _ _ _ c.new.ensures c.unwrap-v.ensures in
-    let at : c.unwrap-v.result / 512 ≡ c.args.i = omega (arith, n, c.from.ensures) in
-    c.copy_walks.ensures.leaves j lt ∙ c.add_leaf.ensures.leaves j lt (λ e. k (e ∙ at)) ∙ looked_leaf g.P.FramePool.world c.args.pool.now c.args.d.now c.args.c.now.memory c.args.c.now.frames.items c.requires.stands c.requires.builds c.requires.apart c.has_leaf-there.new.pool c.has_leaf-there.new.self c.has_leaf-there.ensures.moves c.has_leaf-there.ensures.same c.has_leaf-there.ensures.counts j
-
-pub returns-clause-step : goal.returns-clause-step
-returns-clause-step g c = step_trans g.P.FramePool.world _ _ _ _ _ _ _ _ _ (looked_then g.P.FramePool.world c.args.pool.now c.args.d.now c.args.c.now.memory c.args.c.now.frames.items c.requires.stands c.requires.builds c.requires.apart c.has_leaf-there.new.pool c.has_leaf-there.new.self c.has_leaf-there.ensures.moves c.has_leaf-there.ensures.same c.has_leaf-there.ensures.counts c.add_leaf.new.pool c.add_leaf.new.d c.add_leaf.ensures.moves c.add_leaf.ensures.id c.add_leaf.ensures.hand c.add_leaf.ensures.counts c.add_leaf.ensures.shared) c.copy_walks.ensures.step
-
-pub returns-clause-leaf : goal.returns-clause-leaf
-returns-clause-leaf g c =
-    let W = g.P.FramePool.world in
-    let n = number_is _ _ _ _ c.new.ensures c.unwrap-v.ensures in
-    let at : c.unwrap-v.result / 512 ≡ c.args.i = omega (arith, n, c.from.ensures) in
-    let here : is_some (domain_leaf W c.add_leaf.new.pool c.add_leaf.new.d c.args.i) ≡ true = ap (λ (k : ℕ). is_some (domain_leaf W c.add_leaf.new.pool c.add_leaf.new.d k)) (sym at) ∙ c.add_leaf.ensures.leaf in
-    let was : true ≡ is_some (domain_leaf W c.args.pool.now c.args.d.now c.args.i) = c.if-not-there.ensures.leaf ∙ ap (λ (k : ℕ). is_some (domain_leaf W c.args.pool.now c.args.d.now k)) at in
-    ap is_some (c.copy_walks.ensures.leaves c.args.i c.requires.small) ∙ here ∙ was
-
-pub returns-clause-leaves : goal.returns-clause-leaves
-returns-clause-leaves g c = λ j lt k.
-    let n = number_is _ _ _ _ c.new.ensures c.unwrap-v.ensures in
-    let at : c.unwrap-v.result / 512 ≡ c.args.i = omega (arith, n, c.from.ensures) in
-    c.copy_walks.ensures.leaves j lt ∙ c.add_leaf.ensures.leaves j lt (λ e. k (e ∙ at)) ∙ looked_leaf g.P.FramePool.world c.args.pool.now c.args.d.now c.args.c.now.memory c.args.c.now.frames.items c.requires.stands c.requires.builds c.requires.apart c.has_leaf-there.new.pool c.has_leaf-there.new.self c.has_leaf-there.ensures.moves c.has_leaf-there.ensures.same c.has_leaf-there.ensures.counts j
-
-pub returns-clause-bytes : goal.returns-clause-bytes
-returns-clause-bytes g c = λ x. c.in_ok-copy_walks.ensures.bytes x ∙ c.add_leaf.ensures.bytes x ∙ looked_page g.P.FramePool.world c.args.pool.now c.args.d.now c.args.c.now.memory c.args.c.now.frames.items c.requires.stands c.requires.builds c.requires.apart c.has_leaf-there.new.pool c.has_leaf-there.new.self c.has_leaf-there.ensures.moves c.has_leaf-there.ensures.same c.has_leaf-there.ensures.counts x
+    let ns = both_names (W.names c.args.from.now) (W.names c.args.seat.now) in
+    spares_trans W ns c.args.pool.now c.nth_leaf-leaf.new.pool c.copy_leaf.new.pool
+    (spares_left W (W.names c.args.from.now) (W.names c.args.seat.now) c.args.pool.now c.nth_leaf-leaf.new.pool c.nth_leaf-leaf.ensures.moves.others)
+    (subst (λ (ms : ℕ → Bool). Spares W (both_names ms (W.names c.args.seat.now)) c.nth_leaf-leaf.new.pool c.copy_leaf.new.pool) c.nth_leaf-leaf.ensures.moves.names c.copy_leaf.ensures.others)

@@ -18,21 +18,21 @@ either_gone None k e = sym e
 either_gone (Some h) k e = refl
 
 -- the row had nothing of the frame
-had_none : (from : ℕ) (x : PlainFrame) (o : Owners) (b : Bool) → o ≡ x.owners → b ≡ is_here (held_by from o) → b ≡ false → held_by from x.owners ≡ None
-had_none from x o b is e n = gone_hold _ (ap (λ (k : Owners). is_here (held_by from k)) (sym is) ∙ sym e ∙ n)
+had_none : (from : ℕ) (x : PlainFrame) (b : Bool) → b ≡ is_here (held_by from x.owners) → b ≡ false → held_by from x.owners ≡ None
+had_none from x b e n = gone_hold _ (sym e ∙ n)
 
 pub returns-clause-here : goal.returns-clause-here
-returns-clause-here c = sym c.if-holds.false ∙ c.holds.ensures ∙ ap (λ (k : Owners). is_here (held_by c.args.from k)) c.owners-owners.ensures
+returns-clause-here c = sym c.if-holds.false ∙ c.holds.ensures
 
 pub returns-clause-one : goal.returns-clause-one
 returns-clause-one c = sym (set-get_or c.args.frames.now c.args.f blank_frame)
 
 pub returns-clause-gone : goal.returns-clause-gone
-returns-clause-gone c = had_none c.args.from (frame_at c.args.frames.now c.args.f) c.owners-owners.result c.holds.result c.owners-owners.ensures c.holds.ensures c.if-holds.false
+returns-clause-gone c = had_none c.args.from (frame_at c.args.frames.now c.args.f) c.holds.result c.holds.ensures c.if-holds.false
 
 pub returns-clause-joined : goal.returns-clause-joined
 returns-clause-joined c =
-    either_gone _ _ (had_none c.args.from (frame_at c.args.frames.now c.args.f) c.owners-owners.result c.holds.result c.owners-owners.ensures c.holds.ensures c.if-holds.false)
+    either_gone _ _ (had_none c.args.from (frame_at c.args.frames.now c.args.f) c.holds.result c.holds.ensures c.if-holds.false)
 
 pub rename-requires-clause-room : goal.rename-requires-clause-room
 rename-requires-clause-room c = λ h.
@@ -44,7 +44,7 @@ now_at : (xs zs : List PlainFrame) (f : ℕ) (o : Owners) → f < length xs → 
 now_at xs zs f o fit e = ap (λ (ws : List PlainFrame). frame_at ws f) e ∙ get_or-set_same xs f (record (frame_at xs f) { owners = o }) blank_frame fit
 
 pub returns-then-holds-clause-here : goal.returns-then-holds-clause-here
-returns-then-holds-clause-here c = sym c.if-holds.true ∙ c.holds.ensures ∙ ap (λ (k : Owners). is_here (held_by c.args.from k)) c.owners-owners.ensures
+returns-then-holds-clause-here c = sym c.if-holds.true ∙ c.holds.ensures
 
 pub returns-then-holds-clause-one : goal.returns-then-holds-clause-one
 returns-then-holds-clause-one c =

@@ -14,17 +14,17 @@ pub add_free-requires : goal.add_free-requires
 add_free-requires g c =
     let W = g.P.FramePool.world in
     let l = c.args.self.now.stock in
-    let h : IsHeap W c.join.new.self c.join.new.s (record l { free = l.free ++ c.args.frames.now }) []
-    = heap_joined W c.args.pool.now c.join.new.self c.args.self.now.seat c.args.seat c.join.new.s l c.args.frames.now c.requires.heap c.requires.kept c.join.ensures.seat c.join.ensures.names c.join.ensures.others.frames c.join.ensures.entries c.join.ensures.absent in
-    let few : length (l.free ++ c.args.frames.now) ≤ 16384 = heap_few W c.join.new.self c.join.new.s (record l { free = l.free ++ c.args.frames.now }) [] h (g.met.P.FramePool.shaped _ _ c.join.ensures.seat) in
+    let h : IsHeap W c.join_kept.new.pool c.join_kept.new.s (record l { free = l.free ++ c.args.frames.now }) []
+    = heap_joined W c.args.pool.now c.join_kept.new.pool c.args.self.now.seat c.args.seat c.join_kept.new.s l c.args.frames.now c.requires.heap c.requires.kept c.join_kept.ensures.seat c.join_kept.ensures.names c.join_kept.ensures.others.frames c.join_kept.ensures.entries c.join_kept.ensures.absent in
+    let few : length (l.free ++ c.args.frames.now) ≤ 16384 = heap_few W c.join_kept.new.pool c.join_kept.new.s (record l { free = l.free ++ c.args.frames.now }) [] h (g.met.P.FramePool.shaped _ _ c.join_kept.ensures.seat) in
     let sum : length l.free + length c.args.frames.now ≤ 16384 = omega (arith, few, length-append l.free c.args.frames.now) in sum
 
 pub returns-clause-heap : goal.returns-clause-heap
 returns-clause-heap g c =
     let W = g.P.FramePool.world in
     let l = c.args.self.now.stock in
-    subst (λ (k : Lists). IsHeap W c.join.new.self c.join.new.s k []) (sym c.add_free.ensures)
-    (heap_joined W c.args.pool.now c.join.new.self c.args.self.now.seat c.args.seat c.join.new.s l c.args.frames.now c.requires.heap c.requires.kept c.join.ensures.seat c.join.ensures.names c.join.ensures.others.frames c.join.ensures.entries c.join.ensures.absent)
+    subst (λ (k : Lists). IsHeap W c.join_kept.new.pool c.join_kept.new.s k []) (sym c.add_free.ensures)
+    (heap_joined W c.args.pool.now c.join_kept.new.pool c.args.self.now.seat c.args.seat c.join_kept.new.s l c.args.frames.now c.requires.heap c.requires.kept c.join_kept.ensures.seat c.join_kept.ensures.names c.join_kept.ensures.others.frames c.join_kept.ensures.entries c.join_kept.ensures.absent)
 
 pub returns-clause-pages : goal.returns-clause-pages
 returns-clause-pages g c =
@@ -32,8 +32,8 @@ returns-clause-pages g c =
     let l = c.args.self.now.stock in
     let es = W.entries c.args.pool.now c.args.self.now.seat in
     let os = W.entries c.args.pool.now c.args.seat in
-    let fs = W.entries c.join.new.self c.join.new.s in
+    let fs = W.entries c.join_kept.new.pool c.join_kept.new.s in
     ap (λ (k : Lists). pages_in fs k.exposed) c.add_free.ensures
     ∙ pages_same es fs l.exposed (λ f lt.
-    ap (λ (xs : List (Option Entry)). words_at xs f) c.join.ensures.entries
+    ap (λ (xs : List (Option Entry)). words_at xs f) c.join_kept.ensures.entries
     ∙ words_at-add es os f (ap is_here (exposed_sole W c.args.pool.now c.args.self.now.seat l [] c.requires.heap f lt).0))

@@ -1,5 +1,8 @@
-use Rattle.std.proofs.Common.{◌≡◌, ◌≢◌, ℕ, true, set, length-set, refl, sym, ap, ◌∙◌, arith}
+use Rattle.std.proofs.Common.{◌≡◌, ◌≢◌, ◌<◌, ℕ, List, length, true, set, length-set, refl, sym, ap, ◌∙◌, arith}
 use Rattle.neph_pool.specs.Entries.{is_here, hold_at}
+use Rattle.std.proofs.lemmas.List.{get_or-set_same}
+use Rattle.neph_pool.specs.declared.owners.Owners.{Owners}
+use Rattle.neph_pool.specs.Frames.{PlainFrame, blank_frame, frame_at, with_owners}
 use Rattle.neph_pool.specs.Owners.{held_by}
 use Rattle.neph_pool.specs.Handing.{moved_into}
 use Rattle.neph_pool.specs.Rows.{row_entries}
@@ -25,17 +28,23 @@ loop-f-init c = record {
   told = refl;
 }
 
-pub owners-owners-requires : goal.owners-owners-requires
-owners-owners-requires c = let t = turn c.args.from.now.row c.args.to.now.row c.loop-f.self.frames c.args.part.now c.loop-f.f-index c.f-item.result c.loop-f-test.true c.f-item.is c.loop-f.invariant.may in in_frames c.args.from.now.row c.loop-f.self.frames c.f-item.result _ t.may.0 c.get-place.ensures.value
+pub holds-had-requires-clause-frame : goal.holds-had-requires-clause-frame
+holds-had-requires-clause-frame c = let t = turn c.args.from.now.row c.args.to.now.row c.loop-f.self.frames c.args.part.now c.loop-f.f-index c.f-item.result c.loop-f-test.true c.f-item.is c.loop-f.invariant.may in in_frames c.args.from.now.row c.loop-f.self.frames c.f-item.result _ t.may.0 c.get-place.ensures.value
 
-pub put_owners-requires : goal.put_owners-requires
-put_owners-requires c = let t = turn c.args.from.now.row c.args.to.now.row c.loop-f.self.frames c.args.part.now c.loop-f.f-index c.f-item.result c.loop-f-test.true c.f-item.is c.loop-f.invariant.may in in_frames c.args.from.now.row c.loop-f.self.frames c.f-item.result _ t.may.0 c.get-place.ensures.value
+pub hand-requires-clause-frame : goal.hand-requires-clause-frame
+hand-requires-clause-frame c = let t = turn c.args.from.now.row c.args.to.now.row c.loop-f.self.frames c.args.part.now c.loop-f.f-index c.f-item.result c.loop-f-test.true c.f-item.is c.loop-f.invariant.may in in_frames c.args.from.now.row c.loop-f.self.frames c.f-item.result _ t.may.0 c.get-place.ensures.value
 
 pub hand-requires-clause-part : goal.hand-requires-clause-part
-hand-requires-clause-part c = let t = turn c.args.from.now.row c.args.to.now.row c.loop-f.self.frames c.args.part.now c.loop-f.f-index c.f-item.result c.loop-f-test.true c.f-item.is c.loop-f.invariant.may in let h = find c.args.from.now.row c.loop-f.self.frames c.f-item.result c.get-place.result c.owners-owners.result t.may.0 c.get-place.ensures.value c.owners-owners.ensures in sym (ap is_here h.held) ∙ t.may.0
+hand-requires-clause-part c = let t = turn c.args.from.now.row c.args.to.now.row c.loop-f.self.frames c.args.part.now c.loop-f.f-index c.f-item.result c.loop-f-test.true c.f-item.is c.loop-f.invariant.may in let h = find c.args.from.now.row c.loop-f.self.frames c.f-item.result c.get-place.result (frame_at c.loop-f.self.frames c.get-place.result).owners t.may.0 c.get-place.ensures.value refl in sym (ap is_here h.held) ∙ t.may.0
 
 pub hand-requires-clause-room : goal.hand-requires-clause-room
-hand-requires-clause-room c = let t = turn c.args.from.now.row c.args.to.now.row c.loop-f.self.frames c.args.part.now c.loop-f.f-index c.f-item.result c.loop-f-test.true c.f-item.is c.loop-f.invariant.may in let h = find c.args.from.now.row c.loop-f.self.frames c.f-item.result c.get-place.result c.owners-owners.result t.may.0 c.get-place.ensures.value c.owners-owners.ensures in room_for _ _ _ _ _ h t.may
+hand-requires-clause-room c = let t = turn c.args.from.now.row c.args.to.now.row c.loop-f.self.frames c.args.part.now c.loop-f.f-index c.f-item.result c.loop-f-test.true c.f-item.is c.loop-f.invariant.may in let h = find c.args.from.now.row c.loop-f.self.frames c.f-item.result c.get-place.result (frame_at c.loop-f.self.frames c.get-place.result).owners t.may.0 c.get-place.ensures.value refl in room_for _ _ _ _ _ h t.may
+
+pub holds-has-requires-clause-frame : goal.holds-has-requires-clause-frame
+holds-has-requires-clause-frame c =
+    let t = turn c.args.from.now.row c.args.to.now.row c.loop-f.self.frames c.args.part.now c.loop-f.f-index c.f-item.result c.loop-f-test.true c.f-item.is c.loop-f.invariant.may in
+    let fit = in_frames c.args.from.now.row c.loop-f.self.frames c.f-item.result _ t.may.0 c.get-place.ensures.value in
+    rw (c.hand.ensures.1, length-set c.loop-f.self.frames c.get-place.result (seen c.loop-f.self.frames c.get-place.result c.hand.ensures.0)) fit
 
 pub recount-requires-clause-before : goal.recount-requires-clause-before
 recount-requires-clause-before c = let t = turn c.args.from.now.row c.args.to.now.row c.loop-f.self.frames c.args.part.now c.loop-f.f-index c.f-item.result c.loop-f-test.true c.f-item.is c.loop-f.invariant.may in λ _. some_held c.loop-f.self.held c.loop-f.self.frames c.args.from.now.row c.f-item.result c.loop-f.invariant.held c.requires.from.0.row t.may.0
@@ -46,7 +55,7 @@ recount-requires-clause-small c = few_held c.loop-f.self.held c.loop-f.self.fram
 pub recount-requires-in-loop-f-clause-before : goal.recount-requires-in-loop-f-clause-before
 recount-requires-in-loop-f-clause-before c = λ yes.
     let t = turn c.args.from.now.row c.args.to.now.row c.loop-f.self.frames c.args.part.now c.loop-f.f-index c.f-item.result c.loop-f-test.true c.f-item.is c.loop-f.invariant.may in
-    let h = find c.args.from.now.row c.loop-f.self.frames c.f-item.result c.get-place.result c.owners-owners.result t.may.0 c.get-place.ensures.value c.owners-owners.ensures in
+    let h = find c.args.from.now.row c.loop-f.self.frames c.f-item.result c.get-place.result (frame_at c.loop-f.self.frames c.get-place.result).owners t.may.0 c.get-place.ensures.value refl in
     let here : is_here (hold_at (row_entries c.args.to.now.row c.loop-f.self.frames) c.f-item.result) ≡ true = ap is_here (row_hold c.args.to.now.row c.loop-f.self.frames c.f-item.result _ h.fit h.at) ∙ sym c.holds-had.ensures ∙ yes in
     rw (c.recount.ensures.others c.args.to.now.row (row_apart c.args.self.now c.args.from.now c.args.to.now c.requires.from.0 c.requires.to.0 c.requires.apart))
     (some_held c.loop-f.self.held c.loop-f.self.frames c.args.to.now.row c.f-item.result c.loop-f.invariant.held c.requires.to.0.row here)
@@ -56,6 +65,10 @@ recount-requires-in-loop-f-clause-small c =
     rw (c.recount.ensures.others c.args.to.now.row (row_apart c.args.self.now c.args.from.now c.args.to.now c.requires.from.0 c.requires.to.0 c.requires.apart))
     (few_held c.loop-f.self.held c.loop-f.self.frames c.args.to.now.row c.loop-f.invariant.held (omega (arith, c.loop-f.invariant.size, c.requires.from.0.kept.few)) c.requires.to.0.row)
 
+-- the owners of a frame that changed
+owners_then : (xs zs : List PlainFrame) (f : ℕ) (o : Owners) → f < length xs → zs ≡ with_owners xs f o → (frame_at zs f).owners ≡ o
+owners_then xs zs f o fit e = ap (λ (ws : List PlainFrame). (frame_at ws f).owners) e ∙ ap (λ (x : PlainFrame). x.owners) (get_or-set_same xs f (record (frame_at xs f) { owners = o }) blank_frame fit)
+
 pub loop-f-preserved : goal.loop-f-preserved
 loop-f-preserved c =
     let i = c.loop-f.invariant in
@@ -64,10 +77,10 @@ loop-f-preserved c =
     let xs = c.loop-f.self.frames in
     let f = c.f-item.result in
     let t = turn c.args.from.now.row c.args.to.now.row c.loop-f.self.frames c.args.part.now c.loop-f.f-index c.f-item.result c.loop-f-test.true c.f-item.is c.loop-f.invariant.may in
-    let h = find c.args.from.now.row c.loop-f.self.frames c.f-item.result c.get-place.result c.owners-owners.result t.may.0 c.get-place.ensures.value c.owners-owners.ensures in
-    let x = seen xs f c.owners-owners.result in
-    let y = seen xs f c.hand.new.self in
-    let is : c.put_owners.new.self ≡ set xs f y = c.put_owners.ensures ∙ ap (λ (j : ℕ). set xs j (seen xs j c.hand.new.self)) c.get-place.ensures.value in
+    let h = find c.args.from.now.row c.loop-f.self.frames c.f-item.result c.get-place.result (frame_at c.loop-f.self.frames c.get-place.result).owners t.may.0 c.get-place.ensures.value refl in
+    let x = seen xs f (frame_at c.loop-f.self.frames c.get-place.result).owners in
+    let y = seen xs f c.hand.ensures.0 in
+    let is : c.hand.new.self ≡ set xs f y = c.hand.ensures.1 ∙ ap (λ (j : ℕ). set xs j (seen xs j c.hand.ensures.0)) c.get-place.ensures.value in
     let apart : b ≢ a = row_apart c.args.self.now c.args.from.now c.args.to.now c.requires.from.0 c.requires.to.0 c.requires.apart in
     let here : is_here (held_by a x.owners) ≡ true = sym (ap is_here h.held) ∙ t.may.0 in
     rw is record {
@@ -75,15 +88,15 @@ loop-f-preserved c =
       rows = i.rows;
       cap = i.cap;
       shares = i.shares;
-      may = hand_may a b xs c.args.part.now c.loop-f.f-index f f x y t h refl c.hand.ensures.left c.hand.ensures.moved refl;
-      left = hand_left a b xs c.args.part.now c.loop-f.f-index f f x y t h refl c.hand.ensures.left c.hand.ensures.moved refl _ i.left;
-      moved = hand_moved a b xs c.args.part.now c.loop-f.f-index f f x y t h refl c.hand.ensures.left c.hand.ensures.moved refl _ i.moved;
-      others = λ r n m. rows_same r xs f x y h.at (same_entry r x y (c.hand.ensures.others r n m) refl) ∙ i.others r n m;
+      may = hand_may a b xs c.args.part.now c.loop-f.f-index f f x y t h refl c.hand.ensures.2.left c.hand.ensures.2.moved refl;
+      left = hand_left a b xs c.args.part.now c.loop-f.f-index f f x y t h refl c.hand.ensures.2.left c.hand.ensures.2.moved refl _ i.left;
+      moved = hand_moved a b xs c.args.part.now c.loop-f.f-index f f x y t h refl c.hand.ensures.2.left c.hand.ensures.2.moved refl _ i.moved;
+      others = λ r n m. rows_same r xs f x y h.at (same_entry r x y (c.hand.ensures.2.others r n m) refl) ∙ i.others r n m;
       fewer = count_fewer a xs f x y _ h.at here i.fewer;
       full = full_set xs f y (i.full f h.fit) i.full;
       held = counts_handed c.loop-f.self.held c.recount.new.held c.recount-in-loop-f.new.held xs f x y a b c.holds-had.result c.holds-has.result (λ e. apart (sym e)) c.requires.from.0.row h.fit h.at i.held here
-          (moved_here _ _ here c.hand.ensures.moved) c.holds-had.ensures c.holds-has.ensures c.hand.ensures.others c.recount.ensures.own c.recount.ensures.others c.recount-in-loop-f.ensures.own c.recount-in-loop-f.ensures.others;
-      told = told_same xs f x y h.at c.hand.ensures.total ∙ i.told;
+          (moved_here _ _ here c.hand.ensures.2.moved) c.holds-had.ensures (c.holds-has.ensures ∙ ap (λ (o : Owners). is_here (held_by a o)) (owners_then xs c.hand.new.self c.get-place.result c.hand.ensures.0 (rw c.get-place.ensures.value h.fit) c.hand.ensures.1)) c.hand.ensures.2.others c.recount.ensures.own c.recount.ensures.others c.recount-in-loop-f.ensures.own c.recount-in-loop-f.ensures.others;
+      told = told_same xs f x y h.at c.hand.ensures.2.total ∙ i.told;
     }
 
 -- the pool after the last frame was handed over
