@@ -149,8 +149,7 @@ ReadsFlatly =
     (did.reply ≡ Bytes (take n (drop (addr % 4096) (flat_page m id to.pfn))))
     × ((pfn : ℕ) → flat_page did.machine id pfn ≡ flat_page m id pfn)
 
--- A line of one domain leaves the own half of every other as it was: parent and child share no
--- later write.
+-- A line of one domain leaves the own half of every other as it was.
 abbrev pub WritesAlone : Type 0
 WritesAlone = (s : Script) (m : Machine) (id line other : ℕ) (told : Told) → other ≢ id
     → own_at other (step s m (Line id line) told).machine.own ≡ own_at other m.own
