@@ -1,6 +1,5 @@
 -- The turn of a domain at a clone, by the hypervisor's answer.
-use Rattle.std.proofs.Common.{◌≡◌, ◌≢◌, List, None, set, refl, sym, ap, subst, ◌∙◌}
-use Rattle.std.proofs.lemmas.List.{set-set}
+use Rattle.std.proofs.Common.{◌≡◌, ◌≢◌, None, set, refl, sym, ap, subst, ◌∙◌}
 use Rattle.neph_base.specs.declared.command.Command.{Command}
 use Rattle.neph_base.specs.declared.command.Command.TheVariants.{Clone, Exit}
 use Rattle.neph_base.specs.declared.reply.Actor.TheVariants as actor
@@ -24,8 +23,7 @@ use Rattle.neph_hv.specs.declared.begin.Begin.{Begin}
 use Rattle.neph_hv.specs.declared.begin.Begin.TheVariants.{Refused, Begun}
 use Rattle.neph_hv.specs.Hv.{IsHv, lent_leaves, shared_in}
 use Rattle.neph_hv.specs.Begins.{IsAnswered}
-use Rattle.neph_machine.specs.declared.place.Place.{Place}
-use Rattle.neph_machine.specs.declared.place.Place.TheVariants.{Empty, Domain}
+use Rattle.neph_machine.specs.declared.place.Place.TheVariants.{Domain}
 use Rattle.neph_machine.specs.declared.machine.Machine.{Machine}
 use Rattle.neph_machine.specs.declared.turn.Turn.TheVariants.{Noted as Entered}
 use Rattle.neph_machine.specs.Stages.{IsReadyAt}
@@ -46,7 +44,7 @@ module _ {Pool Seat : Type 0} (W : World Pool Seat) (old : Machine Pool Seat) (s
   abbrev l : Live Pool Seat
   l = ready.domain
 
-  by_answer : (b : Begin Pool Seat) → IsAnswered W old.pool old.hv l.local new.pool new.hv d b → new.places.items ≡ set (with_child id b (set old.places.items id Empty)) id (Domain k) → k.guest.stage ≡ stage_behind l.guest.stage (reply_of b) → IsOwnHalf W new.pool k (own_behind (part_at st id).own Clone (reply_of b) None)
+  by_answer : (b : Begin Pool Seat) → IsAnswered W old.pool old.hv l.local new.pool new.hv d b → new.places.items ≡ with_child id b (set old.places.items id (Domain k)) → k.guest.stage ≡ stage_behind l.guest.stage (reply_of b) → IsOwnHalf W new.pool k (own_behind (part_at st id).own Clone (reply_of b) None)
       → Took W old new (turn old.script st (actor.Dom id)) (Entered (record { entry = Line id l.guest.line; reply = reply_of b }))
   by_answer (Refused why) h places stage half =
       clone_refused W old st reached stands survey id ready new d
@@ -61,19 +59,18 @@ module _ {Pool Seat : Type 0} (W : World Pool Seat) (old : Machine Pool Seat) (s
         others = others;
         shares = shares;
       })
-      k why h.row (places ∙ set-set old.places.items id Empty (Domain k)) local (stage ∙ ready.ready) dom half
+      k why h.row places local (stage ∙ ready.ready) dom half
   by_answer (Begun fork) h places stage half =
       clone_begun W old st reached stands survey well id ready new d fork
       (record { script = script; hv = hv; begun = h; stands = standing; same = same; others = others; shares = shares })
       k places local stage dom half
 
   -- the turn, where the guest goes on behind the reply to this answer
-  pub clone_answered : (b : Begin Pool Seat) → IsAnswered W old.pool old.hv l.local new.pool new.hv d b → (before between : List (Place Pool Seat)) → before ≡ set old.places.items id Empty → between ≡ with_child id b before → new.places.items ≡ set between id (Domain k) → (r : Reply) → r ≡ reply_of b → k.guest.stage ≡ stage_behind l.guest.stage r
+  pub clone_answered : (b : Begin Pool Seat) → IsAnswered W old.pool old.hv l.local new.pool new.hv d b → new.places.items ≡ with_child id b (set old.places.items id (Domain k)) → (r : Reply) → r ≡ reply_of b → k.guest.stage ≡ stage_behind l.guest.stage r
       → ((o : Own) (c : Command) → c ≢ Exit → IsOwnHalf W new.pool (record l { local = d }) o → IsOwnHalf W new.pool k (own_behind o c r None)) → Took W old new (turn old.script st (actor.Dom id)) (Entered (record { entry = Line id l.guest.line; reply = r }))
-  clone_answered b h before between out put back r e stage goes =
+  clone_answered b h places r e stage goes =
       let is = ready_domain W old id Clone ready st stands in
       let o : Own = (part_at st id).own in
-      let places : new.places.items ≡ set (with_child id b (set old.places.items id Empty)) id (Domain k) = back ∙ ap (λ (xs : List (Place Pool Seat)). set xs id (Domain k)) (put ∙ ap (with_child id b) out) in
       let kept = kept_unchanged W old.pool l.local new.pool d standing same in
       let half : IsOwnHalf W new.pool (record l { local = d }) o = half_kept W old.pool new.pool l (record l { local = d }) kept o o refl refl refl refl is.own.line is.own.came is.own.refused is.own in
       subst (λ (v : Reply). k.guest.stage ≡ stage_behind l.guest.stage v → IsOwnHalf W new.pool k (own_behind o Clone v None) → Took W old new (turn old.script st (actor.Dom id)) (Entered (record { entry = Line id l.guest.line; reply = v }))) (sym e) (by_answer b h places) stage

@@ -53,13 +53,13 @@ use Rattle.neph_machine.specs.Turned.{Took}
 use Rattle.neph_machine.proofs.Reached.{IsReached, live_own}
 use Rattle.neph_machine.proofs.Carrying.{none_same, exposes_kept}
 use Rattle.neph_machine.proofs.OnePlace.{not_begun}
-use Rattle.neph_machine.proofs.Pairs.{IsPut, PairMoved, pair_rows, pair_stands}
+use Rattle.neph_machine.proofs.Pairs.{IsPut, put_two, PairMoved, pair_rows, pair_stands}
 use Rattle.neph_lines.proofs.Sparing.{within, orderly, in_books}
 use Rattle.neph_lines.proofs.NoFrame.{same_shares}
 use Rattle.neph_lines.proofs.Exits.{ready_domain, ready_command, ready_quiet}
 use Rattle.neph_begin.proofs.CloneLines.{IsRow, outcome, answered, clone_begins}
 use Rattle.neph_begin.proofs.AtClone.{next_free, ready_hand, row_is, turn_is}
-use Rattle.neph_begin.proofs.Begun.{put_begun, name_gone, name_kept, spares_third}
+use Rattle.neph_begin.proofs.Begun.{name_gone, name_kept, spares_third}
 
 same_child : (a b : ℕ) → Begun a ≡ Begun b → a ≡ b
 same_child a b e = cc
@@ -121,15 +121,15 @@ module _ {Pool Seat : Type 0} (W : World Pool Seat) (old : Machine Pool Seat) (s
     empty_domain : Empty ≡ Domain l → ⊥
     empty_domain h = cc
 
-  module _ (k : Live Pool Seat) (places : new.places.items ≡ set (set (set old.places.items id Empty) fork.child (InFlight flight)) id (Domain k)) (local : k.local ≡ d) where
+  module _ (k : Live Pool Seat) (places : new.places.items ≡ set (set old.places.items id (Domain k)) fork.child (InFlight flight)) (local : k.local ≡ d) where
     pages : k.local.own.map.pages ≡ l.local.own.map.pages
     pages = ap (λ (v : DomLocal Pool Seat). v.own.map.pages) local ∙ ap (λ o. o.map.pages) left.same.own
 
     small : id < 64
     small = within W old st reached stands id l ready.here
 
-    put : IsPut old.places.items new.places.items fork.child id (InFlight flight) (Domain k)
-    put = let n = stands.places in let lt = small in let lc = below in put_begun old.places.items new.places.items id fork.child (Domain k) (InFlight flight) Empty (omega arith) (omega arith) far places
+    put : IsPut old.places.items (set (set old.places.items id (Domain k)) fork.child (InFlight flight)) id fork.child (Domain k) (InFlight flight)
+    put = let n = stands.places in let lt = small in let lc = below in put_two old.places.items id fork.child (Domain k) (InFlight flight) (omega arith) (omega arith) far
 
     pair : PairMoved W old new id fork.child l Empty (Domain k) (InFlight flight)
     pair = record {
@@ -139,10 +139,10 @@ module _ {Pool Seat : Type 0} (W : World Pool Seat) (old : Machine Pool Seat) (s
       here = ready.here;
       there = free_place;
       child_place = tt;
-      long = put.long ∙ stands.places;
-      now_here = put.there Empty;
-      now_there = put.here Empty;
-      other = λ j off away. put.other j away off Empty;
+      long = ap (λ (xs : List (Place Pool Seat)). length xs) places ∙ put.long ∙ stands.places;
+      now_here = ap (place_at id) places ∙ put.here Empty;
+      now_there = ap (place_at fork.child) places ∙ put.there Empty;
+      other = λ j off away. ap (place_at j) places ∙ put.other j off away Empty;
       full = refl;
       script = left.script;
       exposed = λ j away. ap (exposed_of j) left.begun.stock;

@@ -1,20 +1,10 @@
--- The places and the names behind the begin of a clone.
-use Rattle.std.proofs.Common.{◌≡◌, ◌≢◌, ℕ, ◌<◌, Bool, true, false, ◌||◌, List, length, set, refl, sym, ap, subst, ◌∙◌, arith}
+-- The names behind the begin of a clone.
+use Rattle.std.proofs.Common.{◌≡◌, ◌≢◌, ℕ, Bool, true, false, ◌||◌, refl, ap, ◌∙◌}
 use Rattle.std.specs.Prelude.{◌&&◌, not}
 use Rattle.std.proofs.lemmas.Bool.{eq-eqb, ne_eqb}
-use Rattle.std.proofs.lemmas.List.{length-set, get_or-set_other}
 use Rattle.neph_pool.specs.Names.{only_name, both_names, without_name}
 use Rattle.neph_pool.specs.World.{World, Spares}
 use Rattle.neph_heap.proofs.Heaps.{spares_widen}
-use Rattle.neph_machine.proofs.Pairs.{IsPut, put_two, put_behind}
-
--- one was taken out, another put in, and the first put back
-pub put_begun : {A : Type 0} (xs ys : List A) (i j : ℕ) (x y z : A) → i < length xs → j < length xs → j ≢ i → ys ≡ set (set (set xs i z) j y) i x → IsPut xs ys j i y x
-put_begun xs ys i j x y z li lj far is =
-    let n = length-set xs i z in
-    subst (λ (v : List _). IsPut xs v j i y x) (sym is)
-    (put_behind xs (set xs i z) (set (set (set xs i z) j y) i x) j i y x n (λ k away off d. get_or-set_other xs i k z d off)
-    (put_two (set xs i z) j i y x (omega arith) (omega arith) (λ e. far (sym e))))
 
 pub name_gone : (ns : ℕ → Bool) (d : ℕ) → without_name ns d d ≡ false
 name_gone ns d = ap (λ (b : Bool). ns d && not b) (eq-eqb d d refl) ∙ and_false (ns d) where

@@ -1,7 +1,6 @@
 -- A clone that is refused, and one for which memory lacks.
 use Rattle.std.proofs.Common.{◌≡◌, ℕ, List, [], ◌∷◌, get_or, set, None, refl, sym, ap, subst, ◌∙◌}
 use Rattle.std.specs.Prelude.{is_some}
-use Rattle.std.proofs.lemmas.List.{set-set}
 use Rattle.neph_base.specs.declared.command.Command.TheVariants.{Clone}
 use Rattle.neph_base.specs.declared.reply.Actor.TheVariants as actor
 use Rattle.neph_base.specs.declared.reply.Entry.TheVariants.{Line}
@@ -24,8 +23,7 @@ use Rattle.neph_guest.specs.OwnHalf.{IsOwnHalf}
 use Rattle.neph_hv.specs.Hv.{IsHv, shared_in}
 use Rattle.neph_hv.specs.Begins.{IsCloneRow}
 use Rattle.neph_accounts.specs.Colours.{IsStood}
-use Rattle.neph_machine.specs.declared.place.Place.{Place}
-use Rattle.neph_machine.specs.declared.place.Place.TheVariants.{Empty, Domain}
+use Rattle.neph_machine.specs.declared.place.Place.TheVariants.{Domain}
 use Rattle.neph_machine.specs.declared.machine.Machine.{Machine}
 use Rattle.neph_machine.specs.declared.turn.Turn.TheVariants.{Noted as Entered}
 use Rattle.neph_machine.specs.Stages.{IsReadyAt}
@@ -101,11 +99,11 @@ module _ {Pool Seat : Type 0} (W : World Pool Seat) (old : Machine Pool Seat) (s
       })
 
   -- memory lacks, and nothing has changed
-  pub clone_lacked : (between : List (Place Pool Seat)) → between ≡ set old.places.items id Empty → new.places.items ≡ set between id (Domain (record l { local = d })) → Lacked W old new st
-  clone_lacked between out back =
+  pub clone_lacked : new.places.items ≡ set old.places.items id (Domain (record l { local = d })) → Lacked W old new st
+  clone_lacked places =
       let is = ready_domain W old id Clone ready st stands in
       let k : Live Pool Seat = record l { local = d } in
-      let o = one k (back ∙ ap (λ (xs : List (Place Pool Seat)). set xs id (Domain k)) out ∙ set-set old.places.items id Empty (Domain k)) in
+      let o = one k places in
       let half : IsOwnHalf W new.pool k part.own = half_kept W old.pool new.pool l k kept part.own part.own refl refl refl refl is.own.line is.own.came is.own.refused is.own in
       let spare : is_some l.local.own.spare ≡ is_some d.own.spare = sym (ap (λ o. is_some o.spare) left.same.own) in
       let pages : d.own.map.pages ≡ l.local.own.map.pages = ap (λ m. m.pages) kept.map in

@@ -13,7 +13,7 @@ ghost use Rattle.neph_begin.specs.Answers.{reply_of, with_child};
 use neph_base::{Actor, Command, DomId, Entry, NoMemory, Noted, Reply};
 use neph_guest::go_on;
 use neph_hv::Begin;
-use neph_machine::{Flight, Machine, Place, Turn, put_live, put_place, take_live};
+use neph_machine::{Flight, Machine, Place, Turn, live_mut, put_place};
 use neph_pool::FramePool;
 
 /// The turn of a domain that is ready for a `clone`. The clone begins where the hypervisor admits
@@ -30,34 +30,35 @@ pub fn begin_turn<P: FramePool>(machine: &mut Machine<P>, id: DomId) -> Result<T
         → TookOrLacked P.world machine.old machine.new (state_after machine.old.script before)
         (turn machine.old.script (state_after machine.old.script before) (Actor.Dom id)) result }
 {
-    let mut live = take_live(&mut machine.places, id);
+    let live = live_mut(&mut machine.places, id);
     let line = live.guest.line;
     let answer = match machine.hv.begin(&mut machine.pool, &mut live.local) {
         Ok(answer) => answer,
-        Err(lacks) => {
-            put_live(&mut machine.places, id, live);
-            return Err(lacks);
-        }
+        Err(lacks) => return Err(lacks),
     };
-    let reply = put_child(&mut machine.places, id, answer);
-    go_on(&machine.pool, &mut live, &reply);
-    put_live(&mut machine.places, id, live);
+    let reply = reply_to(&answer);
+    go_on(&machine.pool, live, &reply);
+    put_child(&mut machine.places, id, answer);
     let entry = Entry::Line { dom: id, line };
     Ok(Turn::Noted(Noted { entry, reply }))
 }
 
-// Puts the child of a clone that has begun into its place, and says how the clone is answered.
-fn put_child<P: FramePool>(places: &mut Vec<Place<P>>, parent: DomId, answer: Begin<P>) -> Reply
-    requires { vec_len places.old ≡ 64 }
-    ensures reply { result ≡ reply_of answer }
-    ensures places { places.new.items ≡ with_child parent answer places.old.items }
+// How a clone is answered.
+fn reply_to<P: FramePool>(answer: &Begin<P>) -> Reply
+    ensures { result ≡ reply_of answer.now }
 {
     match answer {
-        Begin::Refused(why) => Reply::Refused(why),
-        Begin::Begun(fork) => {
-            let child = fork.child;
-            put_place(places, child, Place::Flight(Flight { parent, fork }));
-            Reply::Begun(child)
-        }
+        Begin::Refused(why) => Reply::Refused(*why),
+        Begin::Begun(fork) => Reply::Begun(fork.child),
+    }
+}
+
+// Puts the child of a clone that has begun into its place.
+fn put_child<P: FramePool>(places: &mut Vec<Place<P>>, parent: DomId, answer: Begin<P>)
+    requires { vec_len places.old ≡ 64 }
+    ensures { places.new.items ≡ with_child parent answer places.old.items }
+{
+    if let Begin::Begun(fork) = answer {
+        put_place(places, fork.child, Place::Flight(Flight { parent, fork }));
     }
 }

@@ -22,7 +22,7 @@ use Rattle.neph_guest.specs.declared.live.Live.{Live}
 use Rattle.neph_heap.specs.Lists.{Lists, exposed_of, aside_of}
 use Rattle.neph_heap.specs.Heap.{IsHeap, IsBorn}
 use Rattle.neph_hv.specs.Hv.{shared_in}
-use Rattle.neph_machine.specs.declared.place.Place.TheVariants.{Empty, Flight as InFlight, Domain}
+use Rattle.neph_machine.specs.declared.place.Place.TheVariants.{Flight as InFlight, Domain}
 use Rattle.neph_machine.specs.declared.place.Flight.{Flight}
 use Rattle.neph_machine.specs.declared.machine.Machine.{Machine}
 use Rattle.neph_machine.specs.declared.turn.Turn.TheVariants.{Noted as Entered}
@@ -43,8 +43,7 @@ pub record WasCommitted {Pool Seat : Type 0} (W : World Pool Seat) (old new : Ma
     (id child : ℕ) (l : Live Pool Seat) (f : Flight Pool Seat) (d c : DomLocal Pool Seat)
     (reply : Reply) : Type 0 where
   pub places : new.places.items
-      ≡ set (set (set (set old.places.items id Empty) child Empty) id
-      (Domain (live_then id l.guest.line false d))) child
+      ≡ set (set old.places.items id (Domain (live_then id l.guest.line false d))) child
       (Domain (live_then child l.guest.line true c))
   pub script : new.script ≡ old.script
   pub hv : IsHeap W new.pool new.hv.heap.seat new.hv.heap.stock []

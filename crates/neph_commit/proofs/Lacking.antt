@@ -18,7 +18,7 @@ use Rattle.neph_hv.specs.Hv.{shared_in}
 use Rattle.neph_accounts.specs.Heaps.{row_frames}
 use Rattle.neph_accounts.specs.Colours.{IsStood}
 use Rattle.neph_machine.specs.declared.place.Place.{Place}
-use Rattle.neph_machine.specs.declared.place.Place.TheVariants.{Empty, Flight as InFlight, Domain}
+use Rattle.neph_machine.specs.declared.place.Place.TheVariants.{Flight as InFlight, Domain}
 use Rattle.neph_machine.specs.declared.place.Flight.{Flight}
 use Rattle.neph_machine.specs.declared.machine.Machine.{Machine}
 use Rattle.neph_machine.specs.Rows.{frames_in, away_in, rows_of}
@@ -40,8 +40,7 @@ pub record WasLacking {Pool Seat : Type 0} (W : World Pool Seat) (old new : Mach
     (id child : ℕ) (l k : Live Pool Seat) (f : Flight Pool Seat) (fork : Fork Pool Seat) : Type 0
   where
     pub places : new.places.items
-        ≡ set (set (set (set old.places.items id Empty) child Empty) id (Domain k)) child
-        (InFlight (flight_of id fork))
+        ≡ set (set old.places.items id (Domain k)) child (InFlight (flight_of id fork))
     pub script : new.script ≡ old.script
     pub guest_same : k.guest ≡ l.guest
     pub hv : IsHeap W new.pool new.hv.heap.seat new.hv.heap.stock []

@@ -1,6 +1,5 @@
 -- A call for a commit has changed the places of a domain and of its child in flight alone.
-use Rattle.std.proofs.Common.{◌≡◌, ◌≢◌, ℕ, ◌<◌, List, Bool, false, [], length, set, sym, ap, subst, ◌∙◌, arith}
-use Rattle.std.proofs.lemmas.List.{length-set, get_or-set_other}
+use Rattle.std.proofs.Common.{◌≡◌, ◌≢◌, ℕ, Bool, false, [], length, set, sym, ap, subst, ◌∙◌, arith}
 use Rattle.neph_model.specs.Books.{State}
 use Rattle.neph_pool.specs.Names.{both_names, only_name}
 use Rattle.neph_pool.specs.World.{World, Spares}
@@ -15,17 +14,7 @@ use Rattle.neph_machine.specs.Places.{place_at, is_empty}
 use Rattle.neph_machine.specs.StandsFor.{StandsFor}
 use Rattle.neph_machine.proofs.Reached.{IsReached}
 use Rattle.neph_machine.proofs.Paired.{IsPair, within, below, far, names_are}
-use Rattle.neph_machine.proofs.Pairs.{IsPut, put_two, put_behind, PairMoved}
-
--- what a list is that two places were taken from and put into
-set_twice : {A : Type 0} (xs : List A) (i j : ℕ) (e x y : A) → i < length xs → j < length xs
-    → j ≢ i → IsPut xs (set (set (set (set xs i e) j e) i x) j y) i j x y
-set_twice xs i j e x y li lj far =
-    let ys = set (set xs i e) j e in
-    let n : length ys ≡ length xs = length-set (set xs i e) j e ∙ length-set xs i e in
-    put_behind xs ys (set (set ys i x) j y) i j x y n
-    (λ k off away d. get_or-set_other (set xs i e) j k e d away ∙ get_or-set_other xs i k e d off)
-    (put_two ys i j x y (omega (arith, n, li)) (omega (arith, n, lj)) far)
+use Rattle.neph_machine.proofs.Pairs.{put_two, PairMoved}
 
 module _ {Pool Seat : Type 0} (W : World Pool Seat) (old : Machine Pool Seat) (st : State)
     (reached : IsReached old.script st) (stands : StandsFor W old st) (id child : ℕ)
@@ -43,9 +32,9 @@ module _ {Pool Seat : Type 0} (W : World Pool Seat) (old : Machine Pool Seat) (s
   spares_two = subst (λ (ms : ℕ → Bool). Spares W (both_names (W.names old.hv.heap.seat) ms)
       old.pool new.pool) (names_are W old st reached stands id child l f both)
 
-  -- both were taken out of their places, and these were put there
+  -- these were put into both places
   pub moved : (x y : Place Pool Seat) → is_empty x ≡ false → is_empty y ≡ false
-      → new.places.items ≡ set (set (set (set old.places.items id Empty) child Empty) id x) child y
+      → new.places.items ≡ set (set old.places.items id x) child y
       → new.script ≡ old.script
       → ((j : ℕ) → j ≢ child → exposed_of j new.hv.heap.stock ≡ exposed_of j old.hv.heap.stock)
       → ((j : ℕ) → j ≢ child → aside_of j new.hv.heap.stock ≡ aside_of j old.hv.heap.stock)
@@ -57,7 +46,7 @@ module _ {Pool Seat : Type 0} (W : World Pool Seat) (old : Machine Pool Seat) (s
       let le = below W old st reached stands id child l f both in
       let n = stands.places in
       let ne = far W old st reached stands id child l f both in
-      let s = set_twice old.places.items id child Empty x y (omega (arith, lt, n))
+      let s = put_two old.places.items id child x y (omega (arith, lt, n))
       (omega (arith, le, n)) ne in
       record {
         within = lt;

@@ -1,4 +1,4 @@
--- A domain and its child in flight, as they were taken out of their places.
+-- A domain in its place, and its child in flight, as it was taken out of its place.
 use Rattle.std.proofs.Common.{◌≡◌, ◌≢◌, ℕ, List, set, sym, ap, subst, ◌∙◌}
 use Rattle.std.proofs.lemmas.List.{get_or-set_other}
 use Rattle.neph_local.specs.Forks.{NoPageLeft}
@@ -10,8 +10,9 @@ use Rattle.neph_machine.specs.declared.place.Place.{Place}
 use Rattle.neph_machine.specs.declared.place.Place.TheVariants.{Empty, Flight as InFlight, Domain}
 use Rattle.neph_machine.specs.declared.place.Flight.{Flight}
 use Rattle.neph_machine.specs.declared.machine.Machine.{Machine}
-use Rattle.neph_machine.specs.Places.{place_at}
+use Rattle.neph_machine.specs.Places.{place_at, IsLive}
 use Rattle.neph_machine.specs.Stages.{IsAt, IsForked}
+use Rattle.neph_machine.proofs.Found.{set_between}
 use Rattle.neph_machine.proofs.Carrying.{same_live, same_flight}
 use Rattle.neph_machine.proofs.OnePlace.{no_flight}
 use Rattle.neph_machine.proofs.Paired.{IsPair}
@@ -21,43 +22,50 @@ pub with_guest : {Pool Seat : Type 0} (p q : Guest) (d : DomLocal Pool Seat) →
     → Domain (record { guest = p; local = d }) ≡ Domain (record { guest = q; local = d })
 with_guest p q d e = ap (λ (g : Guest). Domain (record { guest = g; local = d })) e
 
--- two places that were emptied in order, and then filled in order
-pub filled : {A : Type 0} (i j : ℕ) (e x u y v : A) (xs a b c d : List A) → a ≡ set xs i e → b
-    ≡ set a j e → c ≡ set b i x → x ≡ u → d ≡ set c j y → y ≡ v
-    → d ≡ set (set (set (set xs i e) j e) i u) j v
-filled i j e x u y v xs a b c d to_a to_b to_c to_u to_d to_v =
-    to_d ∙ ap (λ z. set c j z) to_v
-    ∙ ap (λ zs. set zs j v)
-    (to_c ∙ ap (λ z. set b i z) to_u
-    ∙ ap (λ zs. set zs i u) (to_b ∙ ap (λ zs. set zs j e) to_a))
+-- a place that was emptied, one that was changed, and the first filled again
+pub filled : {A : Type 0} (i j : ℕ) (e x u y v : A) (xs a b : List A) → j ≢ i → a ≡ set xs j e
+    → b ≡ set (set a i x) j y → x ≡ u → y ≡ v → b ≡ set (set xs i u) j v
+filled i j e x u y v xs a b far out put same grown =
+    put ∙ ap (λ zs. set (set zs i x) j y) out
+    ∙ set_between xs i j e x y far
+    ∙ ap (λ z. set (set xs i z) j y) same ∙ ap (set (set xs i u) j) grown
 
-module _ {Pool Seat : Type 0} (m : Machine Pool Seat) (id child : ℕ) (l : Live Pool Seat)
-    (f : Flight Pool Seat) where
-  -- The domain that was taken out of its place, which left these places, and then the child. No page
-  -- is left to share.
-  pub pair_taken : IsAt m id Forking → IsForked m id child → (left : List (Place Pool Seat))
-      → place_at id m.places.items ≡ Domain l → left ≡ set m.places.items id Empty
-      → place_at child left ≡ InFlight f
-      → IsPair m id child l f × NoPageLeft l.local.own.map.pages f.fork.next
-  pair_taken at forked left here out there = (
-    record {
-      here = here;
-      flies = flies;
-      parent = ap (λ (x : Flight Pool Seat). x.parent) (sym flight_is) ∙ forked.parent;
-      forking = ap (λ (x : Live Pool Seat). x.guest.stage) (same_live l at.live (sym here ∙ at.here))
-          ∙ at.at;
-    },
-    subst (λ (x : Flight Pool Seat). NoPageLeft l.local.own.map.pages x.fork.next) flight_is
-        (subst (λ (x : Live Pool Seat). NoPageLeft x.local.own.map.pages forked.flight.fork.next)
-        (same_live forked.live l (sym forked.there ∙ here)) forked.none),
-  ) where
-    apart : child ≢ id
-    apart e = no_flight l forked.flight (sym here
+module _ {Pool Seat : Type 0} (m : Machine Pool Seat) (id child : ℕ) (forked : IsForked m id child)
+  where
+    pub apart : child ≢ id
+    apart e = no_flight forked.live forked.flight (sym forked.there
         ∙ ap (λ (i : ℕ). place_at i m.places.items) (sym e) ∙ forked.flies)
 
-    flies : place_at child m.places.items ≡ InFlight f
-    flies = sym (get_or-set_other m.places.items id child Empty Empty apart)
-        ∙ ap (λ (xs : List (Place Pool Seat)). place_at child xs) (sym out) ∙ there
+    -- beside the place of the child, which was emptied, the domain stands where it stood
+    beside : (left : List (Place Pool Seat)) → left ≡ set m.places.items child Empty
+        → place_at id left ≡ place_at id m.places.items
+    beside left out = ap (λ (xs : List (Place Pool Seat)). place_at id xs) out
+        ∙ get_or-set_other m.places.items child id Empty Empty (λ e. apart (sym e))
 
-    flight_is : forked.flight ≡ f
-    flight_is = same_flight forked.flight f (sym forked.flies ∙ flies)
+    pub still_live : (left : List (Place Pool Seat)) → left ≡ set m.places.items child Empty
+        → IsLive (place_at id left)
+    still_live left out = subst IsLive (sym (beside left out ∙ forked.there)) tt
+
+    -- the child that was taken out of its place, and the domain, of which no page is left to share
+    pub pair_taken : IsAt m id Forking → (l : Live Pool Seat) (f : Flight Pool Seat)
+        (left : List (Place Pool Seat))
+        → place_at child m.places.items ≡ InFlight f → left ≡ set m.places.items child Empty
+        → place_at id left ≡ Domain l
+        → IsPair m id child l f × NoPageLeft l.local.own.map.pages f.fork.next
+    pair_taken at l f left flies out there = (
+      record {
+        here = here;
+        flies = flies;
+        parent = ap (λ (x : Flight Pool Seat). x.parent) (sym flight_is) ∙ forked.parent;
+        forking = ap (λ (x : Live Pool Seat). x.guest.stage) (same_live l at.live (sym here ∙ at.here))
+            ∙ at.at;
+      },
+      subst (λ (x : Flight Pool Seat). NoPageLeft l.local.own.map.pages x.fork.next) flight_is
+          (subst (λ (x : Live Pool Seat). NoPageLeft x.local.own.map.pages forked.flight.fork.next)
+          (same_live forked.live l (sym forked.there ∙ here)) forked.none),
+    ) where
+      here : place_at id m.places.items ≡ Domain l
+      here = sym (beside left out) ∙ there
+
+      flight_is : forked.flight ≡ f
+      flight_is = same_flight forked.flight f (sym forked.flies ∙ flies)

@@ -1,21 +1,19 @@
 // The commit of a clone in flight.
-ghost use Rattle.std.specs.Prelude.{◌≡◌, ◌<◌, ◌+◌, List, false, vec_len, slice_set};
+ghost use Rattle.std.specs.Prelude.{◌≡◌, ◌<◌, ◌+◌, List, false};
 ghost use Rattle.neph_base.specs.declared.reply.Actor.{Actor};
 ghost use Rattle.neph_base.specs.declared.reply.Actor.TheVariants.{Dom};
 ghost use Rattle.neph_model.specs.Turns.{turn};
 ghost use Rattle.neph_model.specs.WellFormed.{IsWellFormed};
 ghost use Rattle.neph_pool.specs.World.{World};
-ghost use Rattle.neph_machine.specs.Places.{place_at};
 ghost use Rattle.neph_machine.specs.Reached.{state_after};
 ghost use Rattle.neph_machine.specs.Stages.{IsAt, IsForked};
 ghost use Rattle.neph_machine.specs.StandsFor.{StandsFor};
 ghost use Rattle.neph_machine.specs.Surveyed.{IsSurveyed};
 ghost use Rattle.neph_machine.specs.Turned.{IsRunning, TookOrLacked};
-ghost use Rattle.neph_commit.specs.Flights.{IsFlying};
 
 use neph_base::{DomId, Entry, NoMemory, Noted};
 use neph_guest::{Guest, Live, Stage};
-use neph_machine::{Flight, Machine, Place, Turn, put_live, put_place, take_live, take_place};
+use neph_machine::{Flight, Machine, Place, Turn, live_mut, put_live, put_place, take_flight};
 use neph_pool::FramePool;
 use std::alloc::Global;
 
@@ -38,39 +36,24 @@ pub fn commit_turn<P: FramePool>(
         → TookOrLacked P.world machine.old machine.new (state_after machine.old.script before)
         (turn machine.old.script (state_after machine.old.script before) (Dom id)) result }
 {
-    let mut live = take_live(&mut machine.places, id);
     let flight = take_flight(&mut machine.places, child);
+    let live = live_mut(&mut machine.places, id);
     let line = live.guest.line;
     let pool = &mut machine.pool;
     match machine.hv.commit(alloc, pool, &mut live.local, flight.fork) {
         Ok((local, reply)) => {
             live.guest = guest_behind(id, line, false);
-            put_live(&mut machine.places, id, live);
             let guest = guest_behind(child, line, true);
             put_live(&mut machine.places, child, Live { guest, local });
             let entry = Entry::Commit { dom: id, line };
             Ok(Turn::Noted(Noted { entry, reply }))
         }
         Err(fork) => {
-            put_live(&mut machine.places, id, live);
             let flight = Flight { parent: id, fork };
             put_place(&mut machine.places, child, Place::Flight(flight));
             Err(NoMemory)
         }
     }
-}
-
-// Takes a child in flight out of its place, which is empty then.
-fn take_flight<P: FramePool>(places: &mut Vec<Place<P>>, child: DomId) -> Flight<P>
-    requires places { vec_len places.old ≡ 64 }
-    requires flies { IsFlying (place_at child places.old.items) }
-    ensures here { place_at child places.old.items ≡ Place.Flight result }
-    ensures out { places.new.items ≡ slice_set places.old.items child Place.Empty }
-{
-    let Place::Flight(flight) = take_place(places, child) else {
-        unreachable!();
-    };
-    flight
 }
 
 // The guest of a domain behind the commit of a clone at a line: of its parent, or of the child,

@@ -14,7 +14,7 @@ ghost use Rattle.neph_machine.specs.Turned.{IsRunning, Took};
 use neph_base::DomId;
 use neph_guest::Stage;
 use neph_local::fork_page;
-use neph_machine::{Machine, Place, Turn, put_place, take_place};
+use neph_machine::{Machine, Place, Turn, live_mut, put_place, take_flight};
 use neph_pool::FramePool;
 
 /// A page step of the clone that a domain has in flight: the child shares the frame of the next
@@ -32,14 +32,9 @@ pub fn step_page<P: FramePool>(machine: &mut Machine<P>, id: DomId, child: DomId
     ensures same { result ≡ false → machine.new ≡ machine.old }
     ensures done { result ≡ false → IsForked machine.new id child }
 {
-    let Place::Domain(mut live) = take_place(&mut machine.places, id) else {
-        unreachable!();
-    };
-    let Place::Flight(mut flight) = take_place(&mut machine.places, child) else {
-        unreachable!();
-    };
+    let mut flight = take_flight(&mut machine.places, child);
+    let live = live_mut(&mut machine.places, id);
     let stepped = fork_page(&mut machine.pool, &mut live.local, &mut flight.fork);
-    put_place(&mut machine.places, id, Place::Domain(live));
     put_place(&mut machine.places, child, Place::Flight(flight));
     stepped
 }

@@ -1,5 +1,5 @@
 -- A domain whose line needs a frame takes a spare, or is told that no frame is left.
-use Rattle.std.proofs.Common.{◌≡◌, ◌≢◌, ℕ, ◌<◌, Bool, true, false, List, [], length, get_or, set, None, refl, sym, ap, subst, ◌∙◌, arith}
+use Rattle.std.proofs.Common.{◌≡◌, ◌≢◌, ℕ, ◌<◌, Bool, true, false, List, [], length, get_or, None, refl, sym, ap, subst, ◌∙◌, arith}
 use Rattle.std.specs.Prelude.{is_some, IsSome, ◌||◌}
 use Rattle.neph_base.specs.declared.command.Command.{Command}
 use Rattle.neph_base.specs.declared.command.Command.TheVariants as command
@@ -10,7 +10,6 @@ use Rattle.neph_model.specs.declared.book.Book.{Book}
 use Rattle.neph_model.specs.declared.book.Stage.{Stage}
 use Rattle.neph_model.specs.declared.book.Stage.TheVariants as book
 use Rattle.std.proofs.lemmas.Bool.{eqb-true}
-use Rattle.std.proofs.lemmas.List.{set-set}
 use Rattle.neph_model.specs.declared.book.Spends.{Spends}
 use Rattle.neph_model.specs.Machine.{put_own}
 use Rattle.neph_model.specs.Books.{State, put_book, book_spent, fresh_spent}
@@ -42,10 +41,6 @@ use Rattle.neph_machine.proofs.Reached.{IsReached, live_ids, live_orderly}
 use Rattle.neph_lines.proofs.LineTurns.{put_turns}
 use Rattle.neph_machine.proofs.Carrying.{exposes_kept}
 use Rattle.neph_machine.proofs.OnePlace.{not_begun, no_name, OneDomain, stands_one, one_rows_same}
-
--- what was taken out of a place was put back
-pub put_back : {A : Type 0} (xs ys zs : List A) (i : ℕ) (x e : A) → ys ≡ set xs i e → zs ≡ set ys i x → zs ≡ set xs i x
-put_back xs ys zs i x e out put = put ∙ ap (λ v. set v i x) out ∙ set-set xs i e x
 
 -- from the memory d to the memory e: what is read of the pages, the map and the leaf tables is as before, and so is where each page lies
 pub record IsKept {Pool Seat : Type 0} (W : World Pool Seat) (p : Pool) (d : DomLocal Pool Seat) (q : Pool) (e : DomLocal Pool Seat) : Type 0 where

@@ -20,7 +20,7 @@ ghost use Rattle.neph_lines.specs.Lines.{IsAsked, told_of};
 use neph_base::{Command, DomId, Entry, Noted};
 use neph_guest::go_on;
 use neph_hv::Hv;
-use neph_machine::{Machine, Turn, put_live, take_live};
+use neph_machine::{Machine, Turn, live_mut};
 use neph_memory::DomLocal;
 use neph_model::{Mapping, Told};
 use neph_pool::FramePool;
@@ -45,14 +45,13 @@ pub fn asked_turn<P: FramePool>(machine: &mut Machine<P>, id: DomId, command: &C
         (told_of (free machine.old.script (state_after machine.old.script before)) command.now)
         Nothing) result }
 {
-    let mut live = take_live(&mut machine.places, id);
+    let live = live_mut(&mut machine.places, id);
     let line = live.guest.line;
     let met = met_by(&mut machine.pool, &mut live.local, command);
     let told = told_to(&machine.hv, command);
     let lent = Lent { met, leaves: 0 };
     let reply = machine.hv.call(&mut machine.pool, id, lent, told, command);
-    go_on(&machine.pool, &mut live, &reply);
-    put_live(&mut machine.places, id, live);
+    go_on(&machine.pool, live, &reply);
     Turn::Noted(Noted {
         entry: Entry::Line { dom: id, line },
         reply,

@@ -15,7 +15,7 @@ ghost use Rattle.neph_machine.specs.Turned.{IsRunning, Took};
 
 use neph_base::{DomId, Entry, Noted, Refusal};
 use neph_guest::{CopyTurn, Stage, copy_turn, refuse};
-use neph_machine::{Machine, Turn, put_live, take_live};
+use neph_machine::{Machine, Turn, live_mut};
 use neph_pool::FramePool;
 
 /// The turn of a domain whose write waits for a frame: the write is done in place where no
@@ -32,13 +32,11 @@ pub fn copying_turn<P: FramePool>(machine: &mut Machine<P>, id: DomId) -> Turn
         → Took P.world machine.old machine.new (turn machine.old.script
         (state_after machine.old.script before) (Dom id)) result }
 {
-    let mut live = take_live(&mut machine.places, id);
+    let live = live_mut(&mut machine.places, id);
     let line = live.guest.line;
     let program = machine.hv.registry.program(id);
     let command = machine.script.command_at(program, line);
-    let answer = copy_turn(&mut machine.pool, &mut live, &command);
-    put_live(&mut machine.places, id, live);
-    match answer {
+    match copy_turn(&mut machine.pool, live, &command) {
         CopyTurn::Did(reply) => Turn::Noted(Noted {
             entry: Entry::Line { dom: id, line },
             reply,
@@ -62,15 +60,13 @@ pub fn spare_turn<P: FramePool>(machine: &mut Machine<P>, id: DomId) -> Turn
         (state_after machine.old.script before) id
         (bare_move (free machine.old.script (state_after machine.old.script before)))) result }
 {
-    let mut live = take_live(&mut machine.places, id);
+    let live = live_mut(&mut machine.places, id);
     let took = machine.hv.spare(&mut machine.pool, &mut live.local);
     if took {
-        put_live(&mut machine.places, id, live);
         return Turn::Moved;
     }
     let line = live.guest.line;
-    let reply = refuse(&machine.pool, &mut live, Refusal::NoFrame);
-    put_live(&mut machine.places, id, live);
+    let reply = refuse(&machine.pool, live, Refusal::NoFrame);
     Turn::Noted(Noted {
         entry: Entry::Line { dom: id, line },
         reply,

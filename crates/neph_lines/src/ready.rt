@@ -17,7 +17,7 @@ use crate::asked::asked_turn;
 use crate::copying::spare_turn;
 use neph_base::{Command, DomId, Entry, NoMemory, Noted};
 use neph_guest::{LocalTurn, local_turn};
-use neph_machine::{Machine, Turn, put_live, take_live};
+use neph_machine::{Machine, Turn, live_mut};
 use neph_pool::FramePool;
 
 /// The turn of a domain that is ready for a line that neither begins a clone nor ends it. It does
@@ -69,15 +69,13 @@ fn try_line<P: FramePool>(
         (λ tried. HasTried P.world machine.old machine.new id tried.0 command.now tried.1)
         (λ lacks. HasLacked P.world machine.old machine.new id command.now) }
 {
-    let mut live = take_live(&mut machine.places, id);
+    let live = live_mut(&mut machine.places, id);
     let line = live.guest.line;
     let number = machine.hv.registry.program(id);
     let Some(program) = machine.script.programs.items().get(number as usize) else {
         unreachable!();
     };
-    let answer = local_turn(&mut machine.pool, &mut live, program, command);
-    put_live(&mut machine.places, id, live);
-    match answer {
+    match local_turn(&mut machine.pool, live, program, command) {
         Ok(turn) => Ok((line, turn)),
         Err(lacks) => Err(lacks),
     }

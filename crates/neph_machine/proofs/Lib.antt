@@ -14,3 +14,4 @@ pub mod OnePlace
 pub mod Pairs
 pub mod Paired
 pub mod Joining
+pub mod Found

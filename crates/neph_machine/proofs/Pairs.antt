@@ -42,17 +42,6 @@ put_two xs i j x y li lj far = let n = length-set xs i x in record {
       ∙ get_or-set_other xs i k x d off;
 }
 
--- the same of each list that differs from xs at these places alone
-pub put_behind : {A : Type 0} (xs ys zs : List A) (i j : ℕ) (x y : A) → length ys ≡ length xs
-    → ((k : ℕ) → k ≢ i → k ≢ j → (d : A) → get_or ys k d ≡ get_or xs k d)
-    → IsPut ys zs i j x y → IsPut xs zs i j x y
-put_behind xs ys zs i j x y long same put = record {
-  long = put.long ∙ long;
-  here = put.here;
-  there = put.there;
-  other = λ k off away d. put.other k off away d ∙ same k off away d;
-}
-
 pub one_begun : (xs : List ℕ) (i j : ℕ) → xs ≡ i ∷ [] → xs ≡ j ∷ [] → i ≡ j
 one_begun xs i j e h = cc
 

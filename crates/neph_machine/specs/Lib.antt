@@ -7,3 +7,4 @@ pub mod Turned
 pub mod Stages
 pub mod FrameUses
 pub mod Laws
+pub mod Lending

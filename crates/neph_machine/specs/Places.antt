@@ -13,6 +13,12 @@ is_empty Empty = true
 is_empty (Flight f) = false
 is_empty (Domain l) = false
 
+-- a child in flight stands there
+abbrev pub IsFlying : {Pool Seat : Type 0} → Place Pool Seat → Type 0
+IsFlying Empty = ⊥
+IsFlying (Flight f) = Unit {0}
+IsFlying (Domain l) = ⊥
+
 -- a live domain stands there
 abbrev pub IsLive : {Pool Seat : Type 0} → Place Pool Seat → Type 0
 IsLive Empty = ⊥

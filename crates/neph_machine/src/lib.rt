@@ -12,5 +12,5 @@ pub use laws::{
     count_tells_shared, free_is_listed, plain_pool_is_surveyed, sole_is_alone, uses_are_counts,
 };
 pub use machine::Machine;
-pub use place::{Flight, Place, put_live, put_place, take_live, take_place};
+pub use place::{Flight, Place, live_mut, put_live, put_place, take_flight, take_live};
 pub use turn::Turn;

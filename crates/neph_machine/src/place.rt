@@ -1,7 +1,9 @@
 // What stands in the place of an id.
 ghost use Rattle.std.specs.Prelude.{◌≡◌, ◌<◌, vec_len, slice_set};
+ghost use Rattle.std.specs.Borrow.{sem};
 ghost use Rattle.std.specs.Vec.{with_item};
-ghost use Rattle.neph_machine.specs.Places.{place_at, IsLive};
+ghost use Rattle.neph_machine.specs.Lending.{LendsLive};
+ghost use Rattle.neph_machine.specs.Places.{place_at, IsFlying, IsLive};
 
 use neph_base::DomId;
 use neph_guest::Live;
@@ -30,8 +32,8 @@ pub enum Place<P: FramePool> {
     Domain(Live<P>),
 }
 
-/// Takes what stands in the place of an id, and leaves nothing there.
-pub fn take_place<P: FramePool>(places: &mut Vec<Place<P>>, id: DomId) -> Place<P>
+// Takes what stands in the place of an id, and leaves nothing there.
+fn take_place<P: FramePool>(places: &mut Vec<Place<P>>, id: DomId) -> Place<P>
     requires { vec_len places.old ≡ 64 }
     ensures here { result ≡ place_at id places.old.items }
     ensures out { places.new.items ≡ slice_set places.old.items id Place.Empty }
@@ -54,6 +56,19 @@ pub fn take_live<P: FramePool>(places: &mut Vec<Place<P>>, id: DomId) -> Live<P>
     live
 }
 
+/// Takes the child in flight of an id out of its place, which is empty then.
+pub fn take_flight<P: FramePool>(places: &mut Vec<Place<P>>, id: DomId) -> Flight<P>
+    requires places { vec_len places.old ≡ 64 }
+    requires flies { IsFlying (place_at id places.old.items) }
+    ensures here { place_at id places.old.items ≡ Place.Flight result }
+    ensures left { places.new ≡ with_item places.old id Place.Empty }
+{
+    let Place::Flight(flight) = take_place(places, id) else {
+        unreachable!();
+    };
+    flight
+}
+
 /// Puts this into the place of an id.
 pub fn put_place<P: FramePool>(places: &mut Vec<Place<P>>, id: DomId, place: Place<P>)
     requires { vec_len places.old ≡ 64 }
@@ -69,4 +84,17 @@ pub fn put_live<P: FramePool>(places: &mut Vec<Place<P>>, id: DomId, live: Live<
     ensures { places.new.items ≡ slice_set places.old.items id (Place.Domain live) }
 {
     put_place(places, id, Place::Domain(live));
+}
+
+/// The live domain of an id, where it lies.
+pub fn live_mut<P: FramePool>(places: &mut Vec<Place<P>>, id: DomId) -> &mut Live<P>
+    requires places { vec_len places.old ≡ 64 }
+    requires live { IsLive (place_at id places.old.items) }
+    ensures* writes_back { sem 𝓛 (LendsLive P.row P.Seat.row places.entry id result) }
+    ensures here { place_at id places.old.items ≡ Place.Domain result.now }
+{
+    let Place::Domain(live) = &mut places[id.get() as usize] else {
+        unreachable!();
+    };
+    live
 }

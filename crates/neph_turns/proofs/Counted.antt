@@ -1,5 +1,5 @@
 -- What the frames of a machine are used for, from counts of its places.
-use Rattle.std.proofs.Common.{◌≡◌, ℕ, zero, suc, ◌+◌, ◌-◌, ◌≤◌, ◌<◌, List, [], ◌∷◌, length, get_or, drop, refl, sym, ap, ◌∙◌, arith}
+use Rattle.std.proofs.Common.{◌≡◌, ℕ, ◌+◌, ◌-◌, ◌≤◌, ◌<◌, List, length, get_or, drop, refl, sym, ap, ◌∙◌, arith}
 use Rattle.std.specs.List.{sum_by}
 use Rattle.std.proofs.lemmas.List.Sums.{sum_by-drop_more}
 use Rattle.neph_model.specs.declared.frames.FrameCounts.{FrameCounts}
@@ -26,12 +26,6 @@ use Rattle.neph_turns.specs.Seats.{StandsIn}
 pub sum_rest : {X : Type 0} (f : X → ℕ) (xs : List X) (i : ℕ) (x : X) → i < length xs → x ≡ get_or xs i x
     → sum_by f (drop i xs) ≡ f x + sum_by f (drop (i + 1) xs)
 sum_rest f xs i x lt is = sum_by-drop_more f xs i x lt ∙ ap (λ y. f y + sum_by f (drop (i + 1) xs)) (sym is)
-
--- what stands at an index of a list, whatever stands past its end
-pub get_same : {X : Type 0} (xs : List X) (i : ℕ) (d e : X) → i < length xs → get_or xs i d ≡ get_or xs i e
-get_same [] i d e lt = absurd (omega arith)
-get_same (x ∷ xs) zero d e lt = refl
-get_same (x ∷ xs) (suc i) d e lt = get_same xs i d e (omega arith)
 
 counts_same : (c : FrameCounts) (total colours tables spares aside free : ℕ) → total ≡ c.total → colours ≡ c.colours → tables ≡ c.tables → spares ≡ c.spares → aside ≡ c.aside → free ≡ c.free
     → record { total = total; colours = colours; tables = tables; spares = spares; aside = aside; free = free } ≡ c

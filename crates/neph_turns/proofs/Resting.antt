@@ -1,5 +1,5 @@
 -- What the definitions do in the turn of a domain that rests.
-use Rattle.std.proofs.Common.{◌≡◌, ◌≢◌, ℕ, ◌<◌, length, get_or, Bool, true, false, cond, List, [], Some, None, refl, sym, ap, subst, ◌∙◌}
+use Rattle.std.proofs.Common.{◌≡◌, ◌≢◌, ℕ, Bool, true, false, cond, [], Some, None, refl, sym, ap, subst, ◌∙◌}
 use Rattle.std.specs.Prelude.{is_some}
 use Rattle.neph_base.specs.declared.reply.Actor.TheVariants.{Dom}
 use Rattle.neph_model.specs.declared.book.Stage.{Stage as Ahead}
@@ -22,7 +22,6 @@ use Rattle.neph_machine.specs.Places.{place_at}
 use Rattle.neph_rows.specs.Records.{shared_of}
 use Rattle.neph_machine.specs.Stages.{IsAt, IsRunnable}
 use Rattle.neph_machine.specs.StandsFor.{command_of, IsAtStage, IsDomain, IsPlace, StandsFor}
-use Rattle.neph_turns.proofs.Counted.{get_same}
 use Rattle.neph_turns.specs.Going.{unless_paused, going_in, stage_going}
 
 some_is : {x y : Stage} → Some x ≡ Some y → x ≡ y
@@ -51,11 +50,6 @@ found {Pool} {Seat} m id stage e = by (place_at id m.places.items) refl e where
   by (Domain l) here h =
       let w = went (is_paused id (shared_of m.hv.registry [])) l.guest.stage h in
       record { at = record { live = l; here = here; at = w.0 }; runs = λ far pages. w.1 far }
-
--- what was found to stand in the place of an id
-pub place_is : {Pool Seat : Type 0} (places : List (Place Pool Seat)) (id at : ℕ) (x : Place Pool Seat) (l : Live Pool Seat) → at ≡ id → id < length places → x ≡ get_or places at x → x ≡ Domain l
-    → place_at id places ≡ Domain l
-place_is places id at x l e lt is d = get_same places id Empty x lt ∙ ap (λ k. get_or places k x) (sym e) ∙ sym is ∙ d
 
 -- a domain that has begun no clone goes on where it isn't paused
 pub none_going : (paused : Bool) (s : Stage) → s ≢ guest.Forking → paused ≡ true → unless_paused paused s ≡ None

@@ -1,25 +1,30 @@
-use Rattle.std.proofs.Common.{false, true, refl}
+use Rattle.std.proofs.Common.{false, true, Vec, refl, ap}
 use Rattle.neph_guest.specs.declared.live.Live.{Live}
 use Rattle.neph_machine.specs.declared.place.Place.TheVariants.{Empty, Flight as InFlight, Domain}
 use Rattle.neph_machine.specs.declared.machine.Machine.{Machine}
 use Rattle.neph_machine.specs.Reached.{state_after}
 use Rattle.neph_machine.proofs.Reached.{reached}
-use Rattle.neph_commit.proofs.Taken.{filled, with_guest, pair_taken}
+use Rattle.neph_commit.proofs.Taken.{filled, with_guest, apart, still_live, pair_taken}
 use Rattle.neph_commit.proofs.Forked.{line_small}
 use Rattle.neph_commit.proofs.Born.{guest_then, live_then}
 use Rattle.neph_commit.proofs.Commits.{commit_took}
 use Rattle.neph_commit.proofs.Lacking.{flight_of, commit_lacked}
 use Rattle.neph_commit.proofs.commit.commit_turn.Goals as goal
 
+pub live_mut-live-requires-clause-live : goal.live_mut-live-requires-clause-live
+live_mut-live-requires-clause-live g c =
+    still_live c.args.machine.now c.args.id c.args.child c.requires.forked
+    c.take_flight-flight.new.places.items (ap (λ (v : Vec _ _). v.items) c.take_flight-flight.ensures.left)
+
 pub guest_behind-live-requires : goal.guest_behind-live-requires
 guest_behind-live-requires g c =
     let old = c.args.machine.now in
     let n = c.requires.running in
-    let l = c.take_live-live.result in
+    let l = c.live_mut-live.result.now in
     let f = c.take_flight-flight.result in
-    let both = pair_taken old c.args.id c.args.child l f c.requires.at c.requires.forked
-    c.take_live-live.new.places.items c.take_live-live.ensures.here c.take_live-live.ensures.out
-    c.take_flight-flight.ensures.here in
+    let both = pair_taken old c.args.id c.args.child c.requires.forked c.requires.at l f
+    c.take_flight-flight.new.places.items c.take_flight-flight.ensures.here
+    (ap (λ (v : Vec _ _). v.items) c.take_flight-flight.ensures.left) c.live_mut-live.ensures.here in
     record {
       room = line_small g.P.FramePool.world old (state_after old.script n.0)
           (reached old.script c.requires.formed n.0) n.1 c.args.id c.args.child l f both.0;
@@ -30,20 +35,20 @@ returns-in-Ok g c before stands =
     let old = c.args.machine.now in
     let id = c.args.id in
     let child = c.args.child in
-    let l = c.take_live-live.result in
+    let l = c.live_mut-live.result.now in
     let f = c.take_flight-flight.result in
     let d = c.commit.new.d in
     let k = c.in-Ok.local in
     let e = c.in-Ok.ensures in
-    let both = pair_taken old id child l f c.requires.at c.requires.forked
-    c.take_live-live.new.places.items c.take_live-live.ensures.here c.take_live-live.ensures.out
-    c.take_flight-flight.ensures.here in
+    let both = pair_taken old id child c.requires.forked c.requires.at l f
+    c.take_flight-flight.new.places.items c.take_flight-flight.ensures.here
+    (ap (λ (v : Vec _ _). v.items) c.take_flight-flight.ensures.left) c.live_mut-live.ensures.here in
     let new : Machine _ _ =
     record {
       script = old.script;
       pool = c.commit.new.pool;
       hv = c.commit.new.self;
-      places = c.put_live-in-Ok.new.places;
+      places = c.put_live.new.places;
     } in
     commit_took g.P.FramePool.world old (state_after old.script before)
     (reached old.script c.requires.formed before) stands id child l f both.0 new d k c.in-Ok.reply
@@ -53,13 +58,10 @@ returns-in-Ok g c before stands =
           (Domain (live_then id l.guest.line false d))
           (Domain (record { guest = c.guest_behind-guest.result; local = k }))
           (Domain (live_then child l.guest.line true k))
-          old.places.items c.take_live-live.new.places.items
-          c.take_flight-flight.new.places.items c.put_live.new.places.items
-          c.put_live-in-Ok.new.places.items
-          c.take_live-live.ensures.out c.take_flight-flight.ensures.out c.put_live.ensures
+          old.places.items c.take_flight-flight.new.places.items c.put_live.new.places.items
+          (apart old id child c.requires.forked) (ap (λ (v : Vec _ _). v.items) c.take_flight-flight.ensures.left) c.put_live.ensures
           (with_guest c.guest_behind-live.result (guest_then id l.guest.line false) d
           c.guest_behind-live.ensures)
-          c.put_live-in-Ok.ensures
           (with_guest c.guest_behind-guest.result (guest_then child l.guest.line true) k
           c.guest_behind-guest.ensures);
       script = refl;
@@ -82,13 +84,13 @@ returns-in-Err g c before stands =
     let old = c.args.machine.now in
     let id = c.args.id in
     let child = c.args.child in
-    let l = c.take_live-live.result in
+    let l = c.live_mut-live.result.now in
     let f = c.take_flight-flight.result in
     let fork = c.in-Err.fork in
     let e = c.in-Err.ensures in
-    let both = pair_taken old id child l f c.requires.at c.requires.forked
-    c.take_live-live.new.places.items c.take_live-live.ensures.here c.take_live-live.ensures.out
-    c.take_flight-flight.ensures.here in
+    let both = pair_taken old id child c.requires.forked c.requires.at l f
+    c.take_flight-flight.new.places.items c.take_flight-flight.ensures.here
+    (ap (λ (v : Vec _ _). v.items) c.take_flight-flight.ensures.left) c.live_mut-live.ensures.here in
     let new : Machine _ _ =
     record {
       script = old.script;
@@ -102,10 +104,9 @@ returns-in-Err g c before stands =
     (record {
       places = filled id child Empty (Domain k) (Domain k) (InFlight (flight_of id fork))
           (InFlight (flight_of id fork))
-          old.places.items c.take_live-live.new.places.items c.take_flight-flight.new.places.items
-          c.put_live-in-Err.new.places.items c.put_place.new.places.items
-          c.take_live-live.ensures.out c.take_flight-flight.ensures.out c.put_live-in-Err.ensures
-          refl c.put_place.ensures.items refl;
+          old.places.items c.take_flight-flight.new.places.items c.put_place.new.places.items
+          (apart old id child c.requires.forked) (ap (λ (v : Vec _ _). v.items) c.take_flight-flight.ensures.left)
+          c.put_place.ensures.items refl refl;
       script = refl;
       guest_same = refl;
       hv = e.hv;

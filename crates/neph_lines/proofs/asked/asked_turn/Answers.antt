@@ -1,4 +1,5 @@
 use Rattle.std.proofs.Common.{◌≡◌, ℕ, [], refl, sym, ap, subst, ◌∙◌, arith}
+use Rattle.std.specs.Vec.{with_item}
 use Rattle.neph_model.specs.declared.told.Told.{Told}
 use Rattle.neph_model.specs.Books.{free}
 use Rattle.neph_model.specs.Lent.{Lent, lent}
@@ -6,13 +7,13 @@ use Rattle.neph_model.specs.Step.{locked, shared_line}
 use Rattle.neph_runs.specs.Orderly.{seat as part_at}
 use Rattle.neph_hv.specs.Hv.{shared_in}
 use Rattle.neph_heap.proofs.Heaps.{heap_few}
-use Rattle.neph_machine.specs.declared.place.Place.TheVariants.{Empty, Domain}
+use Rattle.neph_machine.specs.declared.place.Place.TheVariants.{Domain}
 use Rattle.neph_machine.specs.declared.machine.Machine.{Machine}
 use Rattle.neph_machine.specs.Reached.{state_after}
 use Rattle.neph_machine.proofs.Reached.{reached}
 use Rattle.neph_machine.proofs.FrameLaws.{free_is}
 use Rattle.neph_lines.specs.Lines.{told_of}
-use Rattle.neph_lines.proofs.Sparing.{was, put_back}
+use Rattle.neph_lines.proofs.Sparing.{was}
 use Rattle.neph_lines.proofs.ReadyLines.{fits, room}
 use Rattle.neph_lines.proofs.Asking.{lent_met}
 use Rattle.neph_lines.proofs.Called.{met_hv, may_ask, took_called}
@@ -23,7 +24,7 @@ met_by-met-requires g c =
     let old = c.args.machine.now in
     let n = c.requires.asked in
     let st = state_after old.script n.0 in
-    record { stands = (was g.P.FramePool.world old st (reached old.script c.requires.formed n.0) n.1 c.args.id c.take_live-live.result c.take_live-live.ensures.here).stands }
+    record { stands = (was g.P.FramePool.world old st (reached old.script c.requires.formed n.0) n.1 c.args.id c.live_mut-live.result.now c.live_mut-live.ensures.here).stands }
 
 pub told_to-told-requires : goal.told_to-told-requires
 told_to-told-requires g c =
@@ -38,8 +39,8 @@ call-reply-requires g c =
     let n = c.requires.asked in
     let st = state_after old.script n.0 in
     let r = reached old.script c.requires.formed n.0 in
-    let l = c.take_live-live.result in
-    let here = c.take_live-live.ensures.here in
+    let l = c.live_mut-live.result.now in
+    let here = c.live_mut-live.ensures.here in
     let is = was W old st r n.1 c.args.id l here in
     let e = c.met_by-met.ensures in
     let p = c.met_by-met.new.pool in
@@ -58,7 +59,7 @@ go_on-requires g c =
     let old = c.args.machine.now in
     let n = c.requires.asked in
     let st = state_after old.script n.0 in
-    record { room = room g.P.FramePool.world old st (reached old.script c.requires.formed n.0) n.1 c.args.id c.take_live-live.result c.take_live-live.ensures.here c.args.command.now c.requires.here c.requires.no_exit }
+    record { room = room g.P.FramePool.world old st (reached old.script c.requires.formed n.0) n.1 c.args.id c.live_mut-live.result.now c.live_mut-live.ensures.here c.args.command.now c.requires.here c.requires.no_exit }
 
 pub returns : goal.returns
 returns g c before stands asked =
@@ -66,8 +67,8 @@ returns g c before stands asked =
     let old = c.args.machine.now in
     let st = state_after old.script before in
     let r = reached old.script c.requires.formed before in
-    let l = c.take_live-live.result in
-    let here = c.take_live-live.ensures.here in
+    let l = c.live_mut-live.result.now in
+    let here = c.live_mut-live.ensures.here in
     let id = c.args.id in
     let its = c.args.command.now in
     let is = was W old st r stands id l here in
@@ -76,10 +77,10 @@ returns g c before stands asked =
     let k = c.go_on.new.live in
     let o = (part_at st id).own in
     let told : c.told_to-told.result ≡ told_of (free old.script st) its = c.told_to-told.ensures ∙ ap (λ (n : ℕ). told_of n its) (free_is W old st c.requires.surveyed r stands) in
-    let new : Machine _ _ = record { script = old.script; pool = c.call-reply.new.pool; hv = c.call-reply.new.self; places = c.put_live.new.places } in
+    let new : Machine _ _ = record { script = old.script; pool = c.call-reply.new.pool; hv = c.call-reply.new.self; places = with_item old.places id (Domain k) } in
     let row : shared_line (shared_in W c.met_by-met.new.pool old.hv) id (lent o its) (told_of (free old.script st) its) its ≡ locked (shared_in W new.pool new.hv) c.call-reply.result =
     subst (λ (t : Told). shared_line (shared_in W c.met_by-met.new.pool old.hv) id (lent o its) t its ≡ locked (shared_in W new.pool new.hv) c.call-reply.result) told
     (subst (λ (v : Lent). shared_line (shared_in W c.met_by-met.new.pool old.hv) id v c.told_to-told.result its ≡ locked (shared_in W new.pool new.hv) c.call-reply.result) (sym (lent_met o its c.requires.no_clone c.met_by-met.result (e.met o is.own.own))) f.row) in
     took_called W old st r stands id l here its c.requires.here c.met_by-met.new.pool c.met_by-met.new.d e.stands e.same e.moves new refl f.moves f.hv f.stock k
-    (put_back _ _ _ id (Domain k) Empty c.take_live-live.ensures.out c.put_live.ensures) c.go_on.ensures.local c.requires.no_exit c.requires.no_clone (told_of (free old.script st) its) c.call-reply.result
+    refl c.go_on.ensures.local c.requires.no_exit c.requires.no_clone (told_of (free old.script st) its) c.call-reply.result
     (f.shares ∙ e.counts.shares) asked.alone row c.go_on.ensures.half c.go_on.ensures.stage c.go_on.ensures.dom

@@ -1,11 +1,12 @@
 use Rattle.std.proofs.Common.{◌≡◌, ◌<◌, ℕ, Bool, false, [], Some, None, refl, sym, ap, ◌∙◌, arith}
 use Rattle.std.specs.Prelude.{is_some}
+use Rattle.std.specs.Vec.{with_item}
 use Rattle.std.specs.declared.option.Option.{Option}
 use Rattle.neph_model.specs.Books.{State}
 use Rattle.neph_runs.specs.Orderly.{seat as part_at}
 use Rattle.neph_pool.specs.World.{World}
 use Rattle.neph_guest.specs.declared.live.Live.{Live}
-use Rattle.neph_machine.specs.declared.place.Place.TheVariants.{Empty, Domain}
+use Rattle.neph_machine.specs.declared.place.Place.TheVariants.{Domain}
 use Rattle.neph_machine.specs.declared.machine.Machine.{Machine}
 use Rattle.neph_machine.specs.Places.{place_at}
 use Rattle.neph_machine.specs.Reached.{state_after}
@@ -14,7 +15,7 @@ use Rattle.neph_lines.specs.Lines.{HasNoSpare}
 use Rattle.neph_machine.proofs.Reached.{IsReached, reached, line_short}
 use Rattle.neph_machine.proofs.FrameLaws.{free_is}
 use Rattle.neph_machine.proofs.Carrying.{same_live}
-use Rattle.neph_lines.proofs.Sparing.{was, none_begun, put_back}
+use Rattle.neph_lines.proofs.Sparing.{was, none_begun}
 use Rattle.neph_lines.proofs.NoFrame.{spare_taken, line_refused}
 use Rattle.neph_lines.proofs.copying.spare_turn.Goals as goal
 
@@ -39,11 +40,11 @@ returns-then-took g c before stands needs =
     let st = state_after old.script before in
     let r = reached old.script c.requires.formed before in
     let e = c.spare-took.ensures in
-    let l = c.take_live-live.result in
-    let here = c.take_live-live.ensures.here in
+    let l = c.live_mut-live.result.now in
+    let here = c.live_mut-live.ensures.here in
     let id = c.args.id in
     spare_taken W old st r stands id l here (free_is W old st c.requires.surveyed r stands) (quiet W old st r stands id l here c.requires.here)
-    (record { script = old.script; pool = c.spare-took.new.pool; hv = c.spare-took.new.self; places = c.put_live.new.places }) refl c.spare-took.new.d
+    (record { script = old.script; pool = c.spare-took.new.pool; hv = c.spare-took.new.self; places = with_item old.places id (Domain (record l { local = c.spare-took.new.d })) }) refl c.spare-took.new.d
     (record {
       hv = e.hv;
       stock = e.stock;
@@ -55,17 +56,17 @@ returns-then-took g c before stands needs =
       others = e.others;
       shares = e.shares;
     })
-    (put_back _ _ _ id (Domain (record l { local = c.spare-took.new.d })) Empty c.take_live-live.ensures.out c.put_live.ensures)
+    refl
     (sym e.took ∙ c.if-took.true) e.free
 
 pub refuse-reply-requires : goal.refuse-reply-requires
 refuse-reply-requires g c = record { room = few } where
-  few : c.take_live-live.result.guest.line < 65535
+  few : c.live_mut-live.result.now.guest.line < 65535
   few =
       let n = c.requires.needs in
       let st = state_after c.args.machine.now.script n.0 in
       let r = reached c.args.machine.now.script c.requires.formed n.0 in
-      let is = was g.P.FramePool.world c.args.machine.now st r n.1 c.args.id c.take_live-live.result c.take_live-live.ensures.here in
+      let is = was g.P.FramePool.world c.args.machine.now st r n.1 c.args.id c.live_mut-live.result.now c.live_mut-live.ensures.here in
       let line = is.own.line in
       let short = line_short c.args.machine.now.script st r c.args.id n.2.later in
       omega (arith, line, short)
@@ -78,12 +79,12 @@ returns g c before stands needs =
     let r = reached old.script c.requires.formed before in
     let e = c.spare-took.ensures in
     let f = c.refuse-reply.ensures in
-    let l = c.take_live-live.result in
-    let here = c.take_live-live.ensures.here in
+    let l = c.live_mut-live.result.now in
+    let here = c.live_mut-live.ensures.here in
     let id = c.args.id in
     let k = c.refuse-reply.new.live in
     line_refused W old st r stands id l here (free_is W old st c.requires.surveyed r stands) (quiet W old st r stands id l here c.requires.here)
-    (record { script = old.script; pool = c.spare-took.new.pool; hv = c.spare-took.new.self; places = c.put_live-2.new.places }) refl c.spare-took.new.d
+    (record { script = old.script; pool = c.spare-took.new.pool; hv = c.spare-took.new.self; places = with_item old.places id (Domain k) }) refl c.spare-took.new.d
     (record {
       hv = e.hv;
       stock = e.stock;
@@ -96,5 +97,5 @@ returns g c before stands needs =
       shares = e.shares;
     })
     k c.refuse-reply.result needs
-    (put_back _ _ _ id (Domain k) Empty c.take_live-live.ensures.out c.put_live-2.ensures)
+    refl
     (no_spare_is c.spare-took.new.d.own.spare c.spare-took.result e.took c.if-took.false) (e.none c.if-took.false) f.half f.local f.stage f.dom (no_spare W old st r stands id l here c.requires.here)

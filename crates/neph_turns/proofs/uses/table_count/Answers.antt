@@ -5,7 +5,8 @@ use Rattle.neph_machine.specs.FrameUses.{tables_in}
 use Rattle.neph_machine.specs.declared.place.Place.TheVariants.{Empty}
 use Rattle.neph_machine.specs.Places.{place_at}
 use Rattle.neph_turns.specs.Seats.{StandsIn}
-use Rattle.neph_turns.proofs.Counted.{sum_rest, get_same}
+use Rattle.neph_machine.proofs.Found.{get_same}
+use Rattle.neph_turns.proofs.Counted.{sum_rest}
 use Rattle.neph_turns.proofs.Tabling.{other_tables}
 use Rattle.neph_turns.proofs.uses.table_count.Goals as goal
 
