@@ -1,63 +1,132 @@
--- Bytes as pairs of digits.
-use Rattle.std.proofs.Common.{◌≡◌, ℕ, ◌+◌, ◌*◌, ◌/◌, ◌%◌, ◌<◌, ◌≤◌, max, inl, inr, List, [], ◌∷◌, ◌++◌, Option, None, Some, length, take, drop, set, get_or, refl, sym, ap, ◌∙◌, arith, append_assoc}
+-- Bytes as pairs of digits, by the digits' values.
+use Rattle.std.proofs.Common.{◌≡◌, ℕ, zero, suc, ◌+◌, ◌*◌, ◌/◌, ◌%◌, ◌<◌, ◌≤◌, max, inl, inr, List, [], ◌∷◌, ◌++◌, Option, None, Some, length, take, drop, set, get_or, refl, sym, ap, ◌∙◌, arith, append_assoc, add-one, drop-cons}
 use Rattle.std.proofs.lemmas.Bool.{false≢true, cases_lt}
 use Rattle.std.proofs.lemmas.Bool.Decides.{nat_tests}
-use Rattle.std.specs.Prelude.{IfSome, IsSome, ◌↔◌}
+use Rattle.std.specs.Prelude.{IfSome, IsSome, ◌↔◌, replicate}
 use Rattle.neph_command.specs.Words.{hex_bytes, in_front, byte_value, digit_value, sized}
-use Rattle.std.proofs.lemmas.List.{take_more_set, append-nil, length-append, length-drop, get_or-drop, drop-drop}
+use Rattle.std.proofs.lemmas.List.{take_more_set, take_all, drop_all, append-nil, drop-set-lt}
 
--- these bytes, and then those, if there are any
+-- these values, and then those, if there are any
 abbrev pub behind : List ℕ → Option (List ℕ) → Option (List ℕ)
 behind front None = None
-behind front (Some bytes) = Some (front ++ bytes)
+behind front (Some more) = Some (front ++ more)
 
 behind_front : (front : List ℕ) (b : ℕ) (o : Option (List ℕ)) → behind front (in_front (Some b) o) ≡ behind (front ++ b ∷ []) o
 behind_front front b None = refl
-behind_front front b (Some bytes) = ap Some (sym (append_assoc front (b ∷ []) bytes))
+behind_front front b (Some more) = ap Some (sym (append_assoc front (b ∷ []) more))
 
--- the bytes of a word whose first two are no digits
-no_byte : (rest : List ℕ) → 2 ≤ length rest → byte_value (digit_value (get_or rest 0 0)) (digit_value (get_or rest 1 0)) ≡ None → hex_bytes rest ≡ None
+-- the values of digits, if they are such
+abbrev pub values : List ℕ → Option (List ℕ)
+values [] = Some []
+values (x ∷ xs) = in_front (digit_value x) (values xs)
+
+-- the bytes of values, two for each
+abbrev pub pairs : List ℕ → List ℕ
+pairs [] = []
+pairs (x ∷ []) = []
+pairs (high ∷ low ∷ rest) = (16 * high + low) ∷ pairs rest
+
+-- a byte at a place, and its value if it is a digit
+pub record HasValue (b v : ℕ) : Type 0 where
+  pub digit : v < 16 → digit_value b ≡ Some v
+  pub none : 15 < v → digit_value b ≡ None
+
+-- what is read so far, if each value is a digit's, and no digits where one isn't
+pub record ReadTo (text digits : List ℕ) (i most : ℕ) : Type 0 where
+  pub read : most < 16 → values text ≡ behind (take i digits) (values (drop i digits))
+  pub none : 15 < most → values text ≡ None
+
+pub nothing_read_yet : (text : List ℕ) → ReadTo text text 0 0
+nothing_read_yet text = record { read = λ lt. start (values text); none = λ lt. absurd (omega arith) } where
+  start : (o : Option (List ℕ)) → o ≡ behind [] o
+  start None = refl
+  start (Some more) = refl
+
+next_value : (digits : List ℕ) (i : ℕ) → i < length digits → values (drop i digits) ≡ in_front (digit_value (get_or digits i 0)) (values (drop (i + 1) digits))
+next_value digits i lt = rw (add-one, drop-cons digits i 0) refl
+
+pub value_read : (text digits : List ℕ) (i v most : ℕ) → i < length digits → HasValue (get_or digits i 0) v → ReadTo text digits i most → ReadTo text (set digits i v) (i + 1) (max most v)
+value_read text digits i v most lt has so =
+    let rest : drop (i + 1) (set digits i v) ≡ drop (i + 1) digits = drop-set-lt (i + 1) digits i v (omega arith) in
+    record {
+      read = λ few.
+          let e : digit_value (get_or digits i 0) ≡ Some v = has.digit (omega arith) in
+          so.read (omega arith) ∙ ap (behind (take i digits)) (next_value digits i lt ∙ ap (λ (o : Option ℕ). in_front o (values (drop (i + 1) digits))) e)
+          ∙ behind_front (take i digits) v (values (drop (i + 1) digits)) ∙ rw (take_more_set digits i v lt, rest) refl;
+      none = λ big.
+          elim (cases_lt 15 most) [
+            | inl was ↦ so.none was
+            | inr few ↦
+                let e : digit_value (get_or digits i 0) ≡ None = has.none (omega arith) in
+                so.read (omega arith) ∙ ap (behind (take i digits)) (next_value digits i lt ∙ ap (λ (o : Option ℕ). in_front o (values (drop (i + 1) digits))) e)
+          ];
+    }
+
+-- all are read
+all_read : (text digits : List ℕ) (i most : ℕ) → ReadTo text digits i most → length digits ≤ i → most < 16 → values text ≡ Some digits
+all_read text digits i most so full few = so.read few ∙ rw (take_all i digits full, drop_all i digits full) (ap Some (append-nil digits))
+
+digit_small : (b v : ℕ) → digit_value b ≡ Some v → v < 16
+digit_small b v e = grind (arith, nat_tests)
+
+small_values : (text vs : List ℕ) → values text ≡ Some vs → (k : ℕ) → get_or vs k 0 < 16
+small_values [] vs e k = let is : [] ≡ vs = cc in rw (← is) (omega arith)
+small_values (x ∷ xs) vs e k = by (digit_value x) (values xs) refl (λ more so. small_values xs more so) e k where
+  by : (o : Option ℕ) (r : Option (List ℕ)) → digit_value x ≡ o → ((more : List ℕ) → r ≡ Some more → (j : ℕ) → get_or more j 0 < 16) → in_front o r ≡ Some vs → (j : ℕ) → get_or vs j 0 < 16
+  by None r is so e j = absurd cc
+  by (Some b) None is so e j = absurd cc
+  by (Some b) (Some more) is so e zero = let same : b ∷ more ≡ vs = cc in rw (← same) (digit_small x b is)
+  by (Some b) (Some more) is so e (suc j) = let same : b ∷ more ≡ vs = cc in rw (← same) (so more refl j)
+
+-- each value that was read is a digit's
+pub small_read : (text digits : List ℕ) (i most : ℕ) → ReadTo text digits i most → length digits ≤ i → most < 16 → (k : ℕ) → get_or digits k 0 < 16
+small_read text digits i most so full few k = small_values text digits (all_read text digits i most so full few) k
+
+pub pair_read : (digits kept : List ℕ) (i b : ℕ) → i < length kept → 2 * i + 1 < length digits → b ≡ 16 * get_or digits (2 * i) 0 + get_or digits (2 * i + 1) 0 → pairs digits ≡ take i kept ++ pairs (drop (2 * i) digits)
+    → pairs digits ≡ take (i + 1) (set kept i b) ++ pairs (drop (2 * (i + 1)) digits)
+pair_read digits kept i b lt long is so =
+    let first : drop (2 * i) digits ≡ get_or digits (2 * i) 0 ∷ drop (suc (2 * i)) digits = drop-cons digits (2 * i) 0 (omega arith) in
+    let second : drop (suc (2 * i)) digits ≡ get_or digits (suc (2 * i)) 0 ∷ drop (suc (suc (2 * i))) digits = drop-cons digits (suc (2 * i)) 0 (omega arith) in
+    let one : 2 * i + 1 ≡ suc (2 * i) = omega arith in
+    let two : 2 * (i + 1) ≡ suc (suc (2 * i)) = omega arith in
+    let e : pairs (drop (2 * i) digits) ≡ b ∷ pairs (drop (2 * (i + 1)) digits) = rw (first, second, is, one, two) refl in
+    so ∙ ap (λ (bs : List ℕ). take i kept ++ bs) e ∙ sym (append_assoc (take i kept) (b ∷ []) (pairs (drop (2 * (i + 1)) digits))) ∙ ap (λ (front : List ℕ). front ++ pairs (drop (2 * (i + 1)) digits)) (sym (take_more_set kept i b lt))
+
+-- the zeros behind a word have values
+pub zeros_read : (n : ℕ) → values (replicate n 48) ≡ Some (replicate n 0)
+zeros_read zero = refl
+zeros_read (suc n) = rw (zeros_read n) refl
+
+-- a word in front of digits has the first of their bytes
+pub front_read : (word rest vs : List ℕ) (n : ℕ) → length word ≡ 2 * n → values (word ++ rest) ≡ Some vs → hex_bytes word ≡ Some (take n (pairs vs))
 unfolding hex_bytes
-no_byte [] long e = absurd (omega arith)
-no_byte (x ∷ []) long e = absurd (omega arith)
-no_byte (x ∷ y ∷ xs) long e = ap (λ (o : Option ℕ). in_front o (hex_bytes xs)) e
+front_read [] rest vs zero even e = refl
+front_read [] rest vs (suc n) even e = absurd (omega arith)
+front_read (x ∷ []) rest vs n even e = absurd (omega arith)
+front_read (x ∷ y ∷ xs) rest vs zero even e = absurd (omega arith)
+front_read (x ∷ y ∷ xs) rest vs (suc n) even e = by (digit_value x) (digit_value y) (values (xs ++ rest)) (λ more so. front_read xs rest more n (omega arith) so) e where
+  by : (high low : Option ℕ) (r : Option (List ℕ)) → ((more : List ℕ) → r ≡ Some more → hex_bytes xs ≡ Some (take n (pairs more))) → in_front high (in_front low r) ≡ Some vs → in_front (byte_value high low) (hex_bytes xs) ≡ Some (take (suc n) (pairs vs))
+  by None low r so e = absurd cc
+  by (Some h) None r so e = absurd cc
+  by (Some h) (Some l) None so e = absurd cc
+  by (Some h) (Some l) (Some more) so e = let same : h ∷ l ∷ more ≡ vs = cc in rw (so more refl, ← same) refl
 
--- the bytes of a word behind its first pair
-one_byte : (rest : List ℕ) (b : ℕ) → 2 ≤ length rest → byte_value (digit_value (get_or rest 0 0)) (digit_value (get_or rest 1 0)) ≡ Some b → hex_bytes rest ≡ in_front (Some b) (hex_bytes (drop 2 rest))
+-- a word in front of digits is none where they all aren't
+pub front_unread : (word rest zs : List ℕ) (n : ℕ) → length word ≡ 2 * n → values rest ≡ Some zs → values (word ++ rest) ≡ None → hex_bytes word ≡ None
 unfolding hex_bytes
-one_byte [] b long e = absurd (omega arith)
-one_byte (x ∷ []) b long e = absurd (omega arith)
-one_byte (x ∷ y ∷ xs) b long e = ap (λ (o : Option ℕ). in_front o (hex_bytes xs)) e
-
-half_byte : (rest : List ℕ) → 0 < length rest → length rest < 2 → hex_bytes rest ≡ None
-unfolding hex_bytes
-half_byte [] some few = absurd (omega arith)
-half_byte (x ∷ []) some few = refl
-half_byte (x ∷ y ∷ xs) some few = absurd (omega arith)
-
-pub no_pair : (word front rest : List ℕ) → hex_bytes word ≡ behind front (hex_bytes rest) → 2 ≤ length rest → byte_value (digit_value (get_or rest 0 0)) (digit_value (get_or rest 1 0)) ≡ None → hex_bytes word ≡ None
-no_pair word front rest read long e = read ∙ ap (behind front) (no_byte rest long e)
-
-pub odd : (word front rest : List ℕ) → hex_bytes word ≡ behind front (hex_bytes rest) → 0 < length rest → length rest < 2 → hex_bytes word ≡ None
-odd word front rest read some few = read ∙ ap (behind front) (half_byte rest some few)
-
-pub one_more : (word kept rest : List ℕ) (n value : ℕ) → n < length kept → hex_bytes word ≡ behind (take n kept) (hex_bytes rest) → 2 ≤ length rest
-    → byte_value (digit_value (get_or rest 0 0)) (digit_value (get_or rest 1 0)) ≡ Some value → hex_bytes word ≡ behind (take (n + 1) (set kept n value)) (hex_bytes (drop 2 rest))
-one_more word kept rest n value lt read long e =
-    read ∙ ap (behind (take n kept)) (one_byte rest value long e) ∙ behind_front (take n kept) value (hex_bytes (drop 2 rest)) ∙ ap (λ (f : List ℕ). behind f (hex_bytes (drop 2 rest))) (sym (take_more_set kept n value lt))
-
--- more than 64 bytes, or none that a word spells
-pub too_many : (word front rest : List ℕ) (b : ℕ) → hex_bytes word ≡ behind front (hex_bytes rest) → length front ≡ 64 → 2 ≤ length rest → byte_value (digit_value (get_or rest 0 0)) (digit_value (get_or rest 1 0)) ≡ Some b
-    → sized (hex_bytes word) ≡ None
-too_many word front rest b read full long e = rw (read ∙ ap (behind front) (one_byte rest b long e)) (at (hex_bytes (drop 2 rest))) where
-  at : (o : Option (List ℕ)) → sized (behind front (in_front (Some b) o)) ≡ None
-  at None = refl
-  at (Some bytes) = grind (arith, nat_tests, length-append)
-
-all_read : (word front rest : List ℕ) → hex_bytes word ≡ behind front (hex_bytes rest) → length rest ≡ 0 → hex_bytes word ≡ Some front
-unfolding hex_bytes
-all_read word front [] read none = read ∙ ap Some (append-nil front)
-all_read word front (x ∷ xs) read none = absurd (omega arith)
+front_unread [] rest zs n even is e = absurd cc
+front_unread (x ∷ []) rest zs n even is e = refl
+front_unread (x ∷ y ∷ xs) rest zs zero even is e = absurd (omega arith)
+front_unread (x ∷ y ∷ xs) rest zs (suc n) even is e = by (digit_value x) (digit_value y) (values (xs ++ rest)) (λ so. front_unread xs rest zs n (omega arith) is so) e where
+  by : (high low : Option ℕ) (r : Option (List ℕ)) → (r ≡ None → hex_bytes xs ≡ None) → in_front high (in_front low r) ≡ None → in_front (byte_value high low) (hex_bytes xs) ≡ None
+  by None low r so e = no_high low
+    where
+      no_high : (o : Option ℕ) → in_front (byte_value None o) (hex_bytes xs) ≡ None
+      no_high None = refl
+      no_high (Some l) = refl
+  by (Some h) None r so e = refl
+  by (Some h) (Some l) None so e = rw (so refl) refl
+  by (Some h) (Some l) (Some more) so e = absurd cc
 
 fits : (front : List ℕ) → 0 < length front → length front ≤ 64 → sized (Some front) ≡ Some front
 fits front some few = grind (arith, nat_tests)
@@ -65,73 +134,21 @@ fits front some few = grind (arith, nat_tests)
 unsized : (front : List ℕ) → (0 < length front → length front ≤ 64 → ⊥) → sized (Some front) ≡ None
 unsized front out = grind (arith, nat_tests)
 
+-- the piece of some bytes
 sized_as : (front : List ℕ) (o : Option (List ℕ)) → IfSome o (λ p. p ≡ front) → (IsSome o ↔ ((0 < length front) × (length front ≤ 64))) → o ≡ sized (Some front)
 sized_as front None is exactly = sym (unsized front (λ a b. false≢true (exactly.1 (a, b))))
 sized_as front (Some p) is exactly = ap Some is ∙ sym (fits front (exactly.0 refl).0 (exactly.0 refl).1)
 
-pub made : (word front rest : List ℕ) (o : Option (List ℕ)) → hex_bytes word ≡ behind front (hex_bytes rest) → length rest ≡ 0 → IfSome o (λ p. p ≡ front) → (IsSome o ↔ ((0 < length front) × (length front ≤ 64)))
-    → o ≡ sized (hex_bytes word)
-made word front rest o read none is exactly = sized_as front o is exactly ∙ ap sized (sym (all_read word front rest read none))
+-- a word that zeros stand behind spells no piece where not all are digits
+pub no_piece : (word text digits : List ℕ) (i most n k : ℕ) → ReadTo text digits i most → 15 < most → length word ≡ 2 * n → text ≡ word ++ replicate k 48 → sized (hex_bytes word) ≡ None
+no_piece word text digits i most n k so big even is = ap sized (front_unread word (replicate k 48) (replicate k 0) n even (zeros_read k) (ap values (sym is) ∙ so.none big))
 
--- a word and its bytes, if it spells some
-pub refused : (word : List ℕ) → hex_bytes word ≡ None → sized (hex_bytes word) ≡ None
-refused word e = ap sized e
-
--- what is read so far, if each value is a digit's, and no word of bytes where one isn't
-pub record ReadTo (word kept : List ℕ) (i most : ℕ) : Type 0 where
-  pub read : most < 16 → hex_bytes word ≡ behind (take i kept) (hex_bytes (drop (2 * i) word))
-  pub none : 15 < most → hex_bytes word ≡ None
-
-pub nothing_read_yet : (word kept : List ℕ) → ReadTo word kept 0 0
-nothing_read_yet word kept = record { read = λ lt. start (hex_bytes word); none = λ lt. absurd (omega arith) } where
-  start : (o : Option (List ℕ)) → o ≡ behind [] o
-  start None = refl
-  start (Some bytes) = refl
-
--- a byte at a place, and its value if it is a digit
-pub record HasValue (b v : ℕ) : Type 0 where
-  pub digit : v < 16 → digit_value b ≡ Some v
-  pub none : 15 < v → digit_value b ≡ None
-
-two_digits : (a b high low : ℕ) → HasValue a high → HasValue b low → high < 16 → low < 16 → byte_value (digit_value a) (digit_value b) ≡ Some (16 * (high % 16) + low % 16)
-two_digits a b high low ha hb lh ll =
-    let eh : high % 16 ≡ high = omega arith in
-    let el : low % 16 ≡ low = omega arith in
-    rw (ha.digit lh, hb.digit ll, eh, el) refl
-
-no_low : (o : Option ℕ) → byte_value o None ≡ None
-no_low None = refl
-no_low (Some h) = refl
-
-no_digits : (a b high low : ℕ) → HasValue a high → HasValue b low → 15 < max high low → byte_value (digit_value a) (digit_value b) ≡ None
-no_digits a b high low ha hb big =
-    elim (cases_lt 15 high) [
-      | inl h ↦ rw (ha.none h) refl
-      | inr h ↦ let l : 15 < low = omega arith in rw (hb.none l) (no_low (digit_value a))
-    ]
-
-pub pair_read : (word kept : List ℕ) (i high low most : ℕ) → i < length kept → 2 * i + 1 < length word → HasValue (get_or word (2 * i) 0) high → HasValue (get_or word (2 * i + 1) 0) low → ReadTo word kept i most
-    → ReadTo word (set kept i (16 * (high % 16) + low % 16)) (i + 1) (max (max most high) low)
-pair_read word kept i high low most lt long hh hl so =
-    let rest = drop (2 * i) word in
-    let zero : 2 * i + 0 ≡ 2 * i = omega arith in
-    let next : 2 * i + 2 ≡ 2 * (i + 1) = omega arith in
-    let two : 2 ≤ length rest = omega (arith, length-drop (2 * i) word) in
-    let first : get_or rest 0 0 ≡ get_or word (2 * i) 0 = get_or-drop (2 * i) word 0 0 ∙ ap (λ (k : ℕ). get_or word k 0) zero in
-    let second : get_or rest 1 0 ≡ get_or word (2 * i + 1) 0 = get_or-drop (2 * i) word 1 0 in
-    let on : drop 2 rest ≡ drop (2 * (i + 1)) word = drop-drop 2 (2 * i) word ∙ ap (λ (k : ℕ). drop k word) next in
-    record {
-      read = λ few.
-          let e : byte_value (digit_value (get_or rest 0 0)) (digit_value (get_or rest 1 0)) ≡ Some (16 * (high % 16) + low % 16) = rw (first, second) (two_digits _ _ high low hh hl (omega arith) (omega arith)) in
-          rw (← on) (one_more word kept rest i _ lt (so.read (omega arith)) two e);
-      none = λ big.
-          elim (cases_lt 15 most) [
-            | inl was ↦ so.none was
-            | inr few ↦
-                let e : byte_value (digit_value (get_or rest 0 0)) (digit_value (get_or rest 1 0)) ≡ None = rw (first, second) (no_digits _ _ high low hh hl (omega arith)) in
-                no_pair word (take i kept) rest (so.read (omega arith)) two e
-          ];
-    }
+-- and else the piece of the first of the bytes
+pub first_piece : (word text digits kept : List ℕ) (i most n k : ℕ) (o : Option (List ℕ)) → ReadTo text digits i most → length digits ≤ i → most < 16 → length word ≡ 2 * n → text ≡ word ++ replicate k 48 → pairs digits ≡ kept
+    → IfSome o (λ p. p ≡ take n kept) → (IsSome o ↔ ((0 < length (take n kept)) × (length (take n kept) ≤ 64))) → o ≡ sized (hex_bytes word)
+first_piece word text digits kept i most n k o so full few even is same given exactly =
+    let e : values (word ++ replicate k 48) ≡ Some digits = ap values (sym is) ∙ all_read text digits i most so full few in
+    sized_as (take n kept) o given exactly ∙ ap sized (sym (front_read word (replicate k 48) digits n even e ∙ ap (λ (bs : List ℕ). Some (take n bs)) same))
 
 -- a word is twice as long as its bytes
 length_read : (word bytes : List ℕ) → hex_bytes word ≡ Some bytes → length word ≡ 2 * length bytes

@@ -1,5 +1,5 @@
 // What the words of a line say.
-ghost use Rattle.std.specs.Prelude.{◌≡◌, ◌≢◌, ◌<◌, ◌≤◌, ◌^◌, ℕ, List, [], ◌∷◌, length, Some, None, IfOk, IfSome, IfNone, IsTrue, ◌↔◌};
+ghost use Rattle.std.specs.Prelude.{◌≡◌, ◌≢◌, ◌+◌, ◌*◌, ◌<◌, ◌≤◌, ◌^◌, ℕ, List, [], ◌∷◌, length, Some, None, IfOk, IfSome, IfNone, IsTrue, ◌↔◌};
 ghost use Rattle.std.specs.List.{list_all};
 ghost use Rattle.std.specs.Fmt.{decimal};
 ghost use Rattle.neph_command.specs.Plain.{IsPlain};
@@ -80,19 +80,34 @@ pub fn piece(word: &[u8]) -> Result<Piece, Why>
     if word.len() % 2 != 0 || n > 64 {
         return Err(Why::Hex);
     }
-    // Judged once, at the end, so that many bytes go at a time.
-    let mut kept = [0u8; 64];
+    // Always as many digits, and judged once at the end, so that many go at a time.
+    let mut digits = [b'0'; 128];
+    digits[..word.len()].copy_from_slice(word);
     let mut most = 0u8;
-    for i in 0..n {
-        let high = value(word[2 * i]);
-        let low = value(word[2 * i + 1]);
-        most = most.max(high).max(low);
-        kept[i] = 16 * (high % 16) + low % 16;
+    'values: for i in 0..128usize {
+        let v = value(digits[i]);
+        most = most.max(v);
+        digits[i] = v;
     }
     if most > 15 {
         return Err(Why::Hex);
     }
+    let mut kept = [0u8; 64];
+    'pairs: for i in 0..64usize {
+        kept[i] = joined(digits[2 * i], digits[2 * i + 1]);
+    }
     Piece::new(&kept[..n]).ok_or(Why::Hex)
+}
+
+// The byte of two digits' values.
+fn joined(high: u8, low: u8) -> u8
+    requires high { high < 16 }
+    requires low { low < 16 }
+    ensures { result ≡ 16 * high + low }
+{
+    // One product of both, which the machine takes at many places at a time.
+    let pair = u16::from(high) + 256 * u16::from(low);
+    (pair.wrapping_mul(4097) / 256) as u8
 }
 
 /// Whether a word is a name: 1 to 16 letters and digits, the first a letter.

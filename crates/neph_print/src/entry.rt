@@ -2,8 +2,9 @@
 ghost use Rattle.std.specs.Prelude.{◌≡◌, ◌++◌, IfOk, OnOk, codes};
 ghost use Rattle.std.specs.Fmt.{decimal};
 ghost use Rattle.neph_model.specs.Transcript.{entry_line, refusal_text, reply_text};
+ghost use Rattle.neph_print.specs.Texts.{AreTexts};
 
-use crate::command::put_family_command;
+use crate::texts::CommandTexts;
 use itoa::write_digits;
 use neph_base::{DomId, Entry, NoMemory, Refusal, Reply};
 use neph_command::{put_hex, put_labelled, put_number, put_word};
@@ -22,24 +23,29 @@ pub fn entry_line(
     ensures { IfOk result (λ line. line.items ≡ entry_line s.now family e.now r.now) }
 {
     let mut line = Vec::new(alloc);
-    put_entry_line(&mut line, s, family, *e, *r)?;
+    let mut texts = CommandTexts::none(alloc);
+    put_entry_line(&mut line, &mut texts, s, family, *e, *r)?;
     Ok(line)
 }
 
 /// Puts the line of an entry behind a text.
 pub fn put_entry_line(
     text: &mut Vec<u8>,
+    texts: &mut CommandTexts,
     s: &Script,
     family: u8,
     entry: Entry,
     reply: Reply,
 ) -> Result<(), NoMemory>
-    ensures { OnOk result (text.new.items ≡ text.old.items ++ entry_line s.now family entry reply) }
+    requires { AreTexts s.now texts.old }
+    ensures line { OnOk result (text.new.items
+        ≡ text.old.items ++ entry_line s.now family entry reply) }
+    ensures texts { OnOk result (AreTexts s.now texts.new) }
 {
     match entry {
         Entry::Line { dom, line } => {
             put_place(text, dom, line)?;
-            put_family_command(text, s, family, line)?;
+            texts.put(text, s, family, line)?;
         }
         Entry::Commit { dom, line } => {
             put_place(text, dom, line)?;

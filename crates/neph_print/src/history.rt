@@ -4,18 +4,26 @@ ghost use Rattle.neph_model.specs.Step.{actor, child_made};
 ghost use Rattle.neph_model.specs.Transcript.{families_after, history_text, start_families};
 
 use crate::entry::put_entry_line;
+use crate::texts::CommandTexts;
 use neph_base::{Entry, NoMemory, Noted, Reply};
 use neph_model::Script;
+use std::alloc::Global;
 
 /// Puts the lines of the entries of a run from its start, in order, behind a text.
-pub fn put_history(text: &mut Vec<u8>, s: &Script, history: &[Noted]) -> Result<(), NoMemory>
+pub fn put_history(
+    alloc: Global,
+    text: &mut Vec<u8>,
+    s: &Script,
+    history: &[Noted],
+) -> Result<(), NoMemory>
     ensures { OnOk result (text.new.items ≡ text.old.items
         ++ history_text s.now start_families history.now) }
 {
     let mut families = start_families();
+    let mut texts = CommandTexts::none(alloc);
     for noted in history {
         let family = families[actor_of(noted.entry)];
-        put_entry_line(text, s, family, noted.entry, noted.reply)?;
+        put_entry_line(text, &mut texts, s, family, noted.entry, noted.reply)?;
         note_child(&mut families, noted.entry, noted.reply);
     }
     Ok(())

@@ -5,6 +5,7 @@ mod command;
 mod entry;
 mod frames;
 mod history;
+mod texts;
 mod whole;
 
 pub use entry::entry_line;

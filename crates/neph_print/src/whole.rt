@@ -21,7 +21,7 @@ pub fn transcript(
 {
     let mut text = Vec::new(alloc);
     text.extend_from_slice(b"transcript 1\n")?;
-    put_history(&mut text, s, history)?;
+    put_history(alloc, &mut text, s, history)?;
     put_frames_line(&mut text, frames)?;
     if stalled {
         text.extend_from_slice(b"end stalled\n")?;

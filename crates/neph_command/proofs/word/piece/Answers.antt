@@ -1,36 +1,40 @@
-use Rattle.std.proofs.Common.{◌≡◌, ◌<◌, ◌+◌, ◌*◌, ◌/◌, ◌%◌, max, ℕ, List, Option, length, take, drop, get_or, ◌∙◌, sym, ap, arith}
-use Rattle.std.proofs.lemmas.List.{length-set, length-drop}
+use Rattle.std.proofs.Common.{◌≡◌, ◌+◌, ◌-◌, ◌*◌, ◌/◌, ℕ, List, Option, length, ◌∙◌, sym, ap, arith}
 use Rattle.std.specs.Option.{ok_or}
+use Rattle.std.proofs.lemmas.List.{length-set, take_all, drop_all, append-nil, drop-replicate}
 use Rattle.neph_command.specs.declared.why.Why.TheVariants.{Hex}
-use Rattle.neph_command.proofs.Hex.{HasValue, pair_read, unfit, refused, made}
+use Rattle.neph_command.proofs.Hex.{unfit, pairs, small_read, pair_read, no_piece, first_piece}
 use Rattle.neph_command.proofs.word.piece.Goals as goal
 
 pub returns-then-word-ne0 : goal.returns-then-word-ne0
 returns-then-word-ne0 c =
     ap (λ (o : Option (List ℕ)). ok_or o Hex) (sym (unfit c.args.word.now (λ even. omega (arith, c.then-word-ne0.either))))
 
-pub loop-i-preserved : goal.loop-i-preserved
-loop-i-preserved c =
-    let word = c.args.word.now in
-    let kept = c.loop-i.kept in
-    let i = c.loop-i.i in
-    let room : i < length kept = omega arith in
-    let long : 2 * i + 1 < length word = omega arith in
-    let high : HasValue (get_or word (2 * i) 0) c.value-high.result = record { digit = c.value-high.ensures.digit; none = c.value-high.ensures.none } in
-    let low : HasValue (get_or word (2 * i + 1) 0) c.value-low.result = record { digit = c.value-low.ensures.digit; none = c.value-low.ensures.none } in
-    let most : max (max c.loop-i.most c.value-high.result) c.value-low.result ≡ c.max-most.result = cc in
-    record {
-      whole = length-set kept i (16 * (c.value-high.result % 16) + c.value-low.result % 16) ∙ c.loop-i.invariant.whole;
-      so_far = rw (← most) (pair_read word kept i c.value-high.result c.value-low.result c.loop-i.most room long high low c.loop-i.invariant.so_far);
-    }
-
 pub returns-then-most-gt15 : goal.returns-then-most-gt15
-returns-then-most-gt15 c = ap (λ (o : Option (List ℕ)). ok_or o Hex) (sym (refused c.args.word.now (c.loop-i.invariant.so_far.none (omega arith))))
+returns-then-most-gt15 c =
+    let word = c.args.word.now in
+    ap (λ (o : Option (List ℕ)). ok_or o Hex)
+    (sym (no_piece word _ c.values.digits c.values.i c.values.most (length word / 2) (128 - length word) c.values.invariant.so_far (omega arith) (omega arith) (simp (c.copy_from_slice.ensures.after, drop-replicate))))
+
+pub joined-requires-clause-high : goal.joined-requires-clause-high
+joined-requires-clause-high c = small_read _ c.values.digits c.values.i c.values.most c.values.invariant.so_far (omega arith) (omega arith) (2 * c.pairs.i)
+
+pub joined-requires-clause-low : goal.joined-requires-clause-low
+joined-requires-clause-low c = small_read _ c.values.digits c.values.i c.values.most c.values.invariant.so_far (omega arith) (omega arith) (2 * c.pairs.i + 1)
+
+pub pairs-preserved : goal.pairs-preserved
+pairs-preserved c =
+    record {
+      whole = length-set c.pairs.kept c.pairs.i c.joined.result ∙ c.pairs.invariant.whole;
+      so_far = pair_read c.values.digits c.pairs.kept c.pairs.i c.joined.result (omega arith) (omega arith) c.joined.ensures c.pairs.invariant.so_far;
+    }
 
 pub returns : goal.returns
 returns c =
     let word = c.args.word.now in
-    let rest = drop (2 * c.loop-i.i) word in
-    let over : length rest ≡ 0 = omega (arith, length-drop (2 * c.loop-i.i) word) in
-    let same : c.loop-i.i ≡ length word / 2 = omega arith in
-    c.ok_or.ensures.value ∙ ap (λ (o : Option (List ℕ)). ok_or o Hex) (made word (take c.loop-i.i c.loop-i.kept) rest c.new.result (c.loop-i.invariant.so_far.read (omega arith)) over (rw same c.new.ensures.given) (rw same c.new.ensures.exactly))
+    let digits = c.values.digits in
+    let kept = c.pairs.kept in
+    let all : pairs digits ≡ kept =
+    c.pairs.invariant.so_far ∙ rw (take_all c.pairs.i kept (omega arith), drop_all (2 * c.pairs.i) digits (omega arith)) (append-nil kept) in
+    c.ok_or.ensures.value
+    ∙ ap (λ (o : Option (List ℕ)). ok_or o Hex)
+    (first_piece word _ digits kept c.values.i c.values.most (length word / 2) (128 - length word) c.new.result c.values.invariant.so_far (omega arith) (omega arith) (omega arith) (simp (c.copy_from_slice.ensures.after, drop-replicate)) all c.new.ensures.given c.new.ensures.exactly)

@@ -1,0 +1,89 @@
+// The texts of commands, kept so that a command that many domains do is put together once.
+ghost use Rattle.std.specs.Prelude.{◌≡◌, ◌++◌, ◌-◌, OnOk, slice_get};
+ghost use Rattle.neph_model.specs.declared.script.Script.{Script};
+ghost use Rattle.neph_model.specs.Transcript.{command_text, family_program, program_started};
+
+use crate::command::put_program_command;
+use neph_base::NoMemory;
+use neph_command::put_word;
+use neph_model::Script;
+use std::alloc::Global;
+
+/// Where the text of a program's command stands; nowhere where it ends at 0.
+#[derive(Clone, Copy)]
+pub struct TextPlace {
+    pub program: u8,
+    pub line: u16,
+    pub start: usize,
+    pub end: usize,
+}
+
+/// Texts of commands, one behind another, and where the latest with each line's number stands:
+/// lines that are 512 apart share a place.
+#[derive(Drop)]
+pub struct CommandTexts {
+    pub text: Vec<u8>,
+    pub places: [TextPlace; 512],
+}
+
+impl CommandTexts {
+    ghost use Rattle.neph_print.specs.Texts.{AreTexts};
+
+    /// No text.
+    pub fn none(alloc: Global) -> Self
+        ensures { (s : Script) → AreTexts s result }
+    {
+        let nowhere = TextPlace {
+            program: 0,
+            line: 0,
+            start: 0,
+            end: 0,
+        };
+        CommandTexts {
+            text: Vec::new(alloc),
+            places: [nowhere; 512],
+        }
+    }
+
+    /// Puts the command at a line of a family's program behind a text.
+    pub fn put(
+        &mut self,
+        text: &mut Vec<u8>,
+        s: &Script,
+        family: u8,
+        line: u16,
+    ) -> Result<(), NoMemory>
+        requires { AreTexts s.now self.old }
+        ensures text { OnOk result (text.new.items ≡ text.old.items
+            ++ command_text (family_program s.now family) line) }
+        ensures texts { OnOk result (AreTexts s.now self.new) }
+    {
+        let program = program_of(s, family);
+        let at = line as usize % 512;
+        let place = self.places[at];
+        if place.program == program && place.line == line && place.end > 0 {
+            return put_word(text, &self.text[place.start..place.end]);
+        }
+        let start = self.text.len();
+        put_program_command(&mut self.text, s, program, line)?;
+        let end = self.text.len();
+        put_word(text, &self.text[start..end])?;
+        self.places[at] = TextPlace {
+            program,
+            line,
+            start,
+            end,
+        };
+        Ok(())
+    }
+}
+
+// The number of a family's program.
+fn program_of(s: &Script, family: u8) -> u8
+    ensures { result ≡ program_started (slice_get s.now.starts (family - 1)) }
+{
+    match s.starts.items().get((family as usize).saturating_sub(1)) {
+        None => 0,
+        Some(start) => start.program,
+    }
+}
