@@ -1,7 +1,8 @@
-// The worked examples, byte for byte, and faults of source and sink.
+// What the program writes, byte for byte, and faults of source and sink.
 ghost use Rattle.std.specs.Prelude.{◌<◌};
 
 use crate::{Tally, run_call, top};
+use itoa::Buffer;
 use neph_base::{Noted, Refusal, Reply};
 use neph_core::play;
 use neph_flat::{Plain, Told};
@@ -13,186 +14,598 @@ use std::sync::Wait;
 use std::test::Fail;
 use std::thread::Threads;
 
-// What a script writes, with what status.
+// A script, and its transcript.
 #[derive(Clone, Copy)]
 struct Case {
     script: &'static str,
-    status: u8,
     text: &'static str,
 }
 
-static CASES: [Case; 31] = [
-    // A page is written and read.
-    Case {
-        script: "nephele 1\nframes 16\nprogram p\nw 16384 6869\nr 16384 3\nexit\nend\ndomain p 8 0 open\n",
-        status: 0,
-        text: "transcript 1\n1:0 w 16384 6869 = ok\n1:1 r 16384 3 = 686900\n1:2 exit = ended\nframes 16 colours 0 tables 0 spares 0 aside 0 free 16\nend ended\n",
+// The last reference to a frame is taken over.
+const LAST_REFERENCE: Case = Case {
+    script: "nephele 1
+frames 32
+program p
+clone
+jchild kid
+r 16384 1
+free
+w 16384 62
+free
+exit
+label kid
+w 16384 63
+end
+domain p 8 1 open
+turns 1 1 1 1 1 1 daemon 2 2 2 2 1 1 1 1 1
+",
+    text: "transcript 1
+1:0 clone = begin 2
+1:0 commit = 2
+daemon = 2
+2:1 jchild kid = go
+2:7 w 16384 63 = ok
+1:1 jchild kid = on
+1:2 r 16384 1 = 00
+1:3 free = 15
+1:4 w 16384 62 = ok
+1:5 free = 15
+1:6 exit = ended
+2:8 exit = ended
+frames 32 colours 0 tables 0 spares 0 aside 0 free 32
+end ended
+",
+};
+
+// Parent and child at the limit 1: each has its own count.
+const CLONE_OF_A_CHILD: Case = Case {
+    script: "nephele 1
+frames 64
+program p
+clone
+jchild k
+clone
+label k
+end
+domain p 8 1 open
+",
+    text: "transcript 1
+1:0 clone = begin 2
+1:0 commit = 2
+daemon = 2
+1:1 jchild k = on
+2:1 jchild k = go
+1:2 clone = no limit
+2:3 exit = ended
+1:3 exit = ended
+frames 64 colours 0 tables 0 spares 0 aside 0 free 64
+end ended
+",
+};
+
+// Bytes at both ends of a page, and the identity page.
+const ENDS_OF_A_PAGE: Case = Case {
+    script: "nephele 1
+frames 16
+program p
+w 20479 ff
+r 20478 2
+r 0 12
+w 16384 000102030405060708090a0b0c0d0e0f101112131415161718191a1b1c1d1e1f202122232425262728292a2b2c2d2e2f303132333435363738393a3b3c3d3e3f
+r 16384 64
+end
+domain p 8 0 open
+",
+    text: "transcript 1
+1:0 w 20479 ff = ok
+1:1 r 20478 2 = 00ff
+1:2 r 0 12 = 010000000000000008000000
+1:3 w 16384 000102030405060708090a0b0c0d0e0f101112131415161718191a1b1c1d1e1f202122232425262728292a2b2c2d2e2f303132333435363738393a3b3c3d3e3f = ok
+1:4 r 16384 64 = 000102030405060708090a0b0c0d0e0f101112131415161718191a1b1c1d1e1f202122232425262728292a2b2c2d2e2f303132333435363738393a3b3c3d3e3f
+1:5 exit = ended
+frames 16 colours 0 tables 0 spares 0 aside 0 free 16
+end ended
+",
+};
+
+// A limit comes before the frames that a clone needs; a script needs none for its clones.
+const LIMIT_FIRST: Case = Case {
+    script: "nephele 1
+frames 16
+program p
+clone
+end
+domain p 8 0 open
+",
+    text: "transcript 1
+1:0 clone = no limit
+1:1 exit = ended
+frames 16 colours 0 tables 0 spares 0 aside 0 free 16
+end ended
+",
+};
+
+// A clone needs exactly the frames that are free.
+const ENOUGH: Case = Case {
+    script: "nephele 1
+frames 16
+program p
+free
+clone
+free
+end
+domain p 8 1 open
+",
+    text: "transcript 1
+1:0 free = 6
+1:1 clone = begin 2
+1:1 commit = 2
+daemon = 2
+1:2 free = 0
+2:2 free = 0
+1:3 exit = ended
+2:3 exit = ended
+frames 16 colours 0 tables 0 spares 0 aside 0 free 16
+end ended
+",
+};
+
+// A clone needs one frame more than are free.
+const ONE_FRAME_SHORT: Case = Case {
+    script: "nephele 1
+frames 16
+program p
+free
+clone
+free
+end
+domain p 9 1 open
+",
+    text: "transcript 1
+1:0 free = 5
+1:1 clone = no frames 6 5
+1:2 free = 5
+1:3 exit = ended
+frames 16 colours 0 tables 0 spares 0 aside 0 free 16
+end ended
+",
+};
+
+// A clone needs a frame for each leaf table, also for one without mappings.
+const LEAF_TABLES: Case = Case {
+    script: "nephele 1
+frames 17
+program p
+map 512 4 rw
+clone
+jfail no
+exit
+label no
+unmap 512
+clone
+free
+end
+domain p 8 1 open
+",
+    text: "transcript 1
+1:0 map 512 4 rw = ok
+1:1 clone = no frames 7 6
+1:2 jfail no = go
+1:4 unmap 512 = ok
+1:5 clone = no frames 7 6
+1:6 free = 6
+1:7 exit = ended
+frames 17 colours 0 tables 0 spares 0 aside 0 free 17
+end ended
+",
+};
+
+// A leaf table lacks a frame.
+const NO_LEAF_TABLE: Case = Case {
+    script: "nephele 1
+frames 16
+program p
+free
+map 512 4 rw
+map 20 4 rw
+w 81920 07
+r 16384 1
+clone
+end
+domain p 14 1 open
+",
+    text: "transcript 1
+1:0 free = 0
+1:1 map 512 4 rw = no noframe
+1:2 map 20 4 rw = ok
+1:3 w 81920 07 = ok
+1:4 r 16384 1 = 07
+1:5 clone = no frames 6 0
+1:6 exit = ended
+frames 16 colours 0 tables 0 spares 0 aside 0 free 16
+end ended
+",
+};
+
+static CASES: [Case; 8] = [
+    LAST_REFERENCE,
+    CLONE_OF_A_CHILD,
+    ENDS_OF_A_PAGE,
+    LIMIT_FIRST,
+    ENOUGH,
+    ONE_FRAME_SHORT,
+    LEAF_TABLES,
+    NO_LEAF_TABLE,
+];
+
+// Scripts of examples/, most without their comments. `tools/examples` compares their transcripts;
+// here stand the scripts alone, for what is tried beside those, since a test reads no files.
+const ONE_GUEST: &str = "nephele 1
+frames 16
+program p
+w 16384 6869
+r 16384 3
+exit
+end
+domain p 8 0 open
+";
+
+const CLONE: &str = "nephele 1
+frames 32
+program p
+w 16384 61
+clone
+jchild kid
+w 16384 62
+r 16384 1
+exit
+label kid
+r 16384 1
+end
+domain p 8 1 open
+";
+
+const INTERLEAVED: &str = "nephele 1
+frames 32
+program p
+clone
+jchild kid
+w 16384 62
+free
+exit
+label kid
+w 16384 63
+end
+domain p 8 1 open
+turns 1 1 1 1 1 1 daemon 1 2 1 2 1 2 1 2 1
+";
+
+const MAPPING: &str = "nephele 1
+frames 16
+program p
+r 40960 1
+w 0 00
+map 10 8 ro
+map 10 2 rw
+map 10 4 ro
+w 40960 00
+unmap 10
+unmap 10
+map 512 4 rw
+free
+w 2097152 07
+r 16384 1
+end
+domain p 8 0 open
+";
+
+const NESTED: &str = "# a comment before the first line
+nephele 1
+
+frames 44
+#frames 16
+program p
+# counted in nothing
+w 16384 01
+
+clone
+#
+jchild a
+r 16384 1
+exit
+
+label a
+# the next one is line 5
+clone
+jchild b
+w 16384 02
+exit
+label b
+label c
+r 16384 1
+r 0 12
+end
+# after
+domain p 8 1 open
+
+";
+
+const TWO_PROGRAMS: &str = "nephele 1
+frames 64
+program p
+clone
+jchild kid
+free
+w 16384 62
+free
+exit
+label kid
+w 16384 63
+end
+program q
+free
+map 512 4 rw
+w 2097152 07
+free
+r 16384 1
+jfail no
+r 0 4
+w 0 00
+jfail yes
+free
+label no
+label yes
+end
+domain p 8 1 open
+domain q 9 0 open
+turns 1 2 1 1 2 1 1 2
+turns 2 1 daemon 3 daemon
+";
+
+const FAMILY: &str = "nephele 1
+frames 630
+program p
+clone
+clone
+clone
+clone
+clone
+clone
+end
+domain p 8 6 open
+";
+
+const FEW_FRAMES: &str = "nephele 1
+frames 26
+program p
+w 16384 61
+clone
+jchild kid
+free
+w 16384 62
+map 512 5 rw
+clone
+w 16384 62
+map 512 5 rw
+free
+clone
+free
+r 16384 1
+exit
+label kid
+r 16384 1
+end
+program q
+end
+domain p 8 2 open
+domain q 8 0 open
+turns 1 1 1 1 1 1 1 daemon 1 1 1 1 1 1 2
+turns 1 1 1 1 1 1
+";
+
+static EXAMPLES: [&str; 8] = [
+    ONE_GUEST,
+    CLONE,
+    INTERLEAVED,
+    MAPPING,
+    NESTED,
+    TWO_PROGRAMS,
+    FAMILY,
+    FEW_FRAMES,
+];
+
+// What stands before a line: at each place of a script.
+const TOP: &str = "";
+
+const HEADED: &str = "nephele 1\n";
+
+const FRAMED: &str = "nephele 1\nframes 16\n";
+
+const INSIDE: &str = "nephele 1\nframes 16\nprogram p\n";
+
+const BETWEEN: &str = "nephele 1\nframes 16\nprogram p\nend\n";
+
+const STARTED: &str = "nephele 1\nframes 16\nprogram p\nend\ndomain p 8 0 open\n";
+
+const TURNED: &str = "nephele 1\nframes 16\nprogram p\nend\ndomain p 8 0 open\nturns 1\n";
+
+// A place, a line that can't stand there, and what is written: each kind at each place, but for
+// `many`.
+static REFUSED: [(&str, &str, &str); 82] = [
+    // A byte that isn't printed, also on a skipped line.
+    (TOP, "nephele\t1", "script 1 bytes\n"),
+    (HEADED, "\tframes 16", "script 2 bytes\n"),
+    (FRAMED, "# a tab\t", "script 3 bytes\n"),
+    (INSIDE, "\tfly", "script 4 bytes\n"),
+    (BETWEEN, "domain p 8 0 open\r", "script 5 bytes\n"),
+    (STARTED, "turns\t1", "script 6 bytes\n"),
+    (TURNED, "\u{7f}", "script 7 bytes\n"),
+    // A first word that isn't built yet.
+    (TOP, "dir /d", "script 1 unbuilt\n"),
+    (HEADED, "file /f -", "script 2 unbuilt\n"),
+    (FRAMED, "file /d/f 00", "script 3 unbuilt\n"),
+    (INSIDE, "puts 59", "script 4 unbuilt\n"),
+    (BETWEEN, "grant 3 0 4 rw", "script 5 unbuilt\n"),
+    (STARTED, "kill 1", "script 6 unbuilt\n"),
+    (TURNED, "p9get", "script 7 unbuilt\n"),
+    // A first word that can't stand there.
+    (TOP, "frames 16", "script 1 word\n"),
+    (TOP, " nephele 1", "script 1 word\n"),
+    (HEADED, "nephele 1", "script 2 word\n"),
+    (FRAMED, "domain p 8 0 open", "script 3 word\n"),
+    (INSIDE, "fly", "script 4 word\n"),
+    (INSIDE, "program q", "script 4 word\n"),
+    (BETWEEN, "turns 1", "script 5 word\n"),
+    (BETWEEN, "end", "script 5 word\n"),
+    (STARTED, "program q", "script 6 word\n"),
+    (TURNED, "domain p 8 0 open", "script 7 word\n"),
+    // Another number of words, or a space too many.
+    (TOP, "nephele", "script 1 form\n"),
+    (HEADED, "frames 16 16", "script 2 form\n"),
+    (FRAMED, "program", "script 3 form\n"),
+    (INSIDE, "r 0", "script 4 form\n"),
+    (INSIDE, "exit ", "script 4 form\n"),
+    (INSIDE, "label a b", "script 4 form\n"),
+    (INSIDE, "end p", "script 4 form\n"),
+    (BETWEEN, "program  q", "script 5 form\n"),
+    (BETWEEN, "domain p 8 0", "script 5 form\n"),
+    (STARTED, "domain p 8 0 open x", "script 6 form\n"),
+    (STARTED, "turns", "script 6 form\n"),
+    (TURNED, "turns 1  2", "script 7 form\n"),
+    // A form that isn't built yet by another word.
+    (INSIDE, "clone 2", "script 4 unbuilt\n"),
+    (BETWEEN, "domain p 8 0 exclusive", "script 5 unbuilt\n"),
+    (STARTED, "domain p 8 0 exclusive", "script 6 unbuilt\n"),
+    // A number out of its range, or not plain.
+    (TOP, "nephele 2", "script 1 number\n"),
+    (HEADED, "frames 15", "script 2 number\n"),
+    (INSIDE, "w 1073741824 00", "script 4 number\n"),
+    (INSIDE, "r 016384 1", "script 4 number\n"),
+    (INSIDE, "r 16384 65", "script 4 number\n"),
+    (INSIDE, "r 4095 2", "script 4 number\n"),
+    (INSIDE, "map 262144 4 ro", "script 4 number\n"),
+    (INSIDE, "map 0 1024 ro", "script 4 number\n"),
+    (INSIDE, "unmap x", "script 4 number\n"),
+    (BETWEEN, "domain p 7 0 open", "script 5 number\n"),
+    (BETWEEN, "domain p 8 63 open", "script 5 number\n"),
+    (STARTED, "domain p 1025 0 open", "script 6 number\n"),
+    (STARTED, "turns 64", "script 6 number\n"),
+    (TURNED, "turns 0", "script 7 number\n"),
+    // Bytes that aren't such, or cross the page's end.
+    (INSIDE, "w 16384 FF", "script 4 hex\n"),
+    (INSIDE, "w 16384 6", "script 4 hex\n"),
+    (INSIDE, "w 4095 0000", "script 4 hex\n"),
+    // A word that is none of those in its place.
+    (INSIDE, "map 10 4 rx", "script 4 word\n"),
+    (BETWEEN, "domain p 8 0 shut", "script 5 word\n"),
+    (STARTED, "domain p 8 0 shut", "script 6 word\n"),
+    (STARTED, "turns fly", "script 6 word\n"),
+    (TURNED, "turns 1 fly", "script 7 word\n"),
+    // A name that is ill formed, or stands twice.
+    (FRAMED, "program web-srv", "script 3 name\n"),
+    (INSIDE, "label A", "script 4 name\n"),
+    (INSIDE, "jump A", "script 4 name\n"),
+    (INSIDE, "jchild 1a", "script 4 name\n"),
+    (INSIDE, "jfail abcdefghijklmnopq", "script 4 name\n"),
+    (BETWEEN, "program p", "script 5 name\n"),
+    (BETWEEN, "domain P 8 0 open", "script 5 name\n"),
+    (STARTED, "domain P 8 0 open", "script 6 name\n"),
+    (INSIDE, "label a\nlabel a", "script 5 name\n"),
+    // A program that isn't there.
+    (BETWEEN, "domain q 8 0 open", "script 5 program\n"),
+    (STARTED, "domain q 8 0 open", "script 6 program\n"),
+    // At `end`, a jump to no label after it.
+    (INSIDE, "label a\njump a\nend", "script 6 label\n"),
+    (INSIDE, "jchild a\nend", "script 5 label\n"),
+    (INSIDE, "jfail a\nend", "script 5 label\n"),
+    // Starting domains that need more frames than there are.
+    (BETWEEN, "domain p 16 0 open", "script 5 frames\n"),
+    (STARTED, "domain p 8 0 open", "script 6 frames\n"),
+    // The end of the text where a line must come.
+    (TOP, "", "script 1 missing\n"),
+    (HEADED, "", "script 2 missing\n"),
+    (FRAMED, "", "script 3 missing\n"),
+    (INSIDE, "", "script 4 missing\n"),
+    (BETWEEN, "", "script 5 missing\n"),
+];
+
+// A text with something many times in it, and what is written where it is once too often.
+struct Many {
+    before: &'static str,
+    again: &'static str,
+    times: u32,
+    told: &'static str,
+}
+
+static MANY: [Many; 5] = [
+    // Programs.
+    Many {
+        before: "nephele 1
+frames 16
+program a
+end
+program b
+end
+program c
+end
+program d
+end
+program e
+end
+program f
+end
+program g
+end
+program h
+end
+program i
+end
+program j
+end
+program k
+end
+program l
+end
+program m
+end
+program n
+end
+program o
+end
+program p
+end
+",
+        again: "program z\n",
+        times: 1,
+        told: "script 35 many\n",
     },
-    // The child reads the old byte.
-    Case {
-        script: "nephele 1\nframes 32\nprogram p\nw 16384 61\nclone\njchild kid\nw 16384 62\nr 16384 1\nexit\nlabel kid\nr 16384 1\nend\ndomain p 8 1 open\n",
-        status: 0,
-        text: "transcript 1\n1:0 w 16384 61 = ok\n1:1 clone = begin 2\n1:1 commit = 2\ndaemon = 2\n1:2 jchild kid = on\n2:2 jchild kid = go\n2:6 r 16384 1 = 61\n2:7 exit = ended\n1:3 w 16384 62 = ok\n1:4 r 16384 1 = 62\n1:5 exit = ended\nframes 32 colours 0 tables 0 spares 0 aside 0 free 32\nend ended\n",
+    // Commands of a program.
+    Many {
+        before: INSIDE,
+        again: "exit\n",
+        times: 513,
+        told: "script 516 many\n",
     },
-    // The last reference is taken over.
-    Case {
-        script: "nephele 1\nframes 32\nprogram p\nclone\njchild kid\nr 16384 1\nfree\nw 16384 62\nfree\nexit\nlabel kid\nw 16384 63\nend\ndomain p 8 1 open\nturns 1 1 1 1 1 1 daemon 2 2 2 2 1 1 1 1 1\n",
-        status: 0,
-        text: "transcript 1\n1:0 clone = begin 2\n1:0 commit = 2\ndaemon = 2\n2:1 jchild kid = go\n2:7 w 16384 63 = ok\n1:1 jchild kid = on\n1:2 r 16384 1 = 00\n1:3 free = 15\n1:4 w 16384 62 = ok\n1:5 free = 15\n1:6 exit = ended\n2:8 exit = ended\nframes 32 colours 0 tables 0 spares 0 aside 0 free 32\nend ended\n",
+    // Starting domains.
+    Many {
+        before: "nephele 1\nframes 16384\nprogram p\nend\n",
+        again: "domain p 8 0 open\n",
+        times: 17,
+        told: "script 21 many\n",
     },
-    // Two faults on one frame interleave.
-    Case {
-        script: "nephele 1\nframes 32\nprogram p\nclone\njchild kid\nw 16384 62\nfree\nexit\nlabel kid\nw 16384 63\nend\ndomain p 8 1 open\nturns 1 1 1 1 1 1 daemon 1 2 1 2 1 2 1 2 1\n",
-        status: 0,
-        text: "transcript 1\n1:0 clone = begin 2\n1:0 commit = 2\ndaemon = 2\n1:1 jchild kid = on\n2:1 jchild kid = go\n1:2 w 16384 62 = ok\n2:5 w 16384 63 = ok\n1:3 free = 14\n1:4 exit = ended\n2:6 exit = ended\nframes 32 colours 0 tables 0 spares 0 aside 0 free 32\nend ended\n",
+    // Lines of turns.
+    Many {
+        before: STARTED,
+        again: "turns 1\n",
+        times: 65,
+        told: "script 70 many\n",
     },
-    // Pages are mapped.
-    Case {
-        script: "nephele 1\nframes 16\nprogram p\nr 40960 1\nw 0 00\nmap 10 8 ro\nmap 10 2 rw\nmap 10 4 ro\nw 40960 00\nunmap 10\nunmap 10\nmap 512 4 rw\nfree\nw 2097152 07\nr 16384 1\nend\ndomain p 8 0 open\n",
-        status: 0,
-        text: "transcript 1\n1:0 r 40960 1 = no unmapped\n1:1 w 0 00 = no readonly\n1:2 map 10 8 ro = no badpfn\n1:3 map 10 2 rw = no badpfn\n1:4 map 10 4 ro = ok\n1:5 w 40960 00 = no readonly\n1:6 unmap 10 = ok\n1:7 unmap 10 = no unmapped\n1:8 map 512 4 rw = ok\n1:9 free = 5\n1:10 w 2097152 07 = ok\n1:11 r 16384 1 = 07\n1:12 exit = ended\nframes 16 colours 0 tables 0 spares 0 aside 0 free 16\nend ended\n",
-    },
-    // A clone at its limit.
-    Case {
-        script: "nephele 1\nframes 32\nprogram p\nclone\nend\ndomain p 8 0 open\n",
-        status: 0,
-        text: "transcript 1\n1:0 clone = no limit\n1:1 exit = ended\nframes 32 colours 0 tables 0 spares 0 aside 0 free 32\nend ended\n",
-    },
-    // Two clones at the limit 1.
-    Case {
-        script: "nephele 1\nframes 64\nprogram p\nclone\njchild k\nclone\nlabel k\nend\ndomain p 8 1 open\n",
-        status: 0,
-        text: "transcript 1\n1:0 clone = begin 2\n1:0 commit = 2\ndaemon = 2\n1:1 jchild k = on\n2:1 jchild k = go\n1:2 clone = no limit\n2:3 exit = ended\n1:3 exit = ended\nframes 64 colours 0 tables 0 spares 0 aside 0 free 64\nend ended\n",
-    },
-    // Bytes at both ends of a page, and the identity page.
-    Case {
-        script: "nephele 1\nframes 16\nprogram p\nw 20479 ff\nr 20478 2\nr 0 12\nw 16384 000102030405060708090a0b0c0d0e0f101112131415161718191a1b1c1d1e1f202122232425262728292a2b2c2d2e2f303132333435363738393a3b3c3d3e3f\nr 16384 64\nend\ndomain p 8 0 open\n",
-        status: 0,
-        text: "transcript 1\n1:0 w 20479 ff = ok\n1:1 r 20478 2 = 00ff\n1:2 r 0 12 = 010000000000000008000000\n1:3 w 16384 000102030405060708090a0b0c0d0e0f101112131415161718191a1b1c1d1e1f202122232425262728292a2b2c2d2e2f303132333435363738393a3b3c3d3e3f = ok\n1:4 r 16384 64 = 000102030405060708090a0b0c0d0e0f101112131415161718191a1b1c1d1e1f202122232425262728292a2b2c2d2e2f303132333435363738393a3b3c3d3e3f\n1:5 exit = ended\nframes 16 colours 0 tables 0 spares 0 aside 0 free 16\nend ended\n",
-    },
-    // Clones of clones, with comments and empty lines.
-    Case {
-        script: "# a comment before the first line\nnephele 1\n\nframes 44\n#frames 16\nprogram p\n# counted in nothing\nw 16384 01\n\nclone\n#\njchild a\nr 16384 1\nexit\n\nlabel a\n# the next one is line 5\nclone\njchild b\nw 16384 02\nexit\nlabel b\nlabel c\nr 16384 1\nr 0 12\nend\n# after\ndomain p 8 1 open\n\n",
-        status: 0,
-        text: "transcript 1\n1:0 w 16384 01 = ok\n1:1 clone = begin 2\n1:1 commit = 2\ndaemon = 2\n1:2 jchild a = on\n2:2 jchild a = go\n1:3 r 16384 1 = 01\n2:5 clone = begin 3\n1:4 exit = ended\n2:5 commit = 3\ndaemon = 3\n2:6 jchild b = on\n3:6 jchild b = go\n3:9 r 16384 1 = 01\n3:10 r 0 12 = 030000000200000008000000\n2:7 w 16384 02 = ok\n3:11 exit = ended\n2:8 exit = ended\nframes 44 colours 0 tables 0 spares 0 aside 0 free 44\nend ended\n",
-    },
-    // Two programs, mappings, jumps after a refusal and turns.
-    Case {
-        script: "nephele 1\nframes 64\nprogram p\nclone\njchild kid\nfree\nw 16384 62\nfree\nexit\nlabel kid\nw 16384 63\nend\nprogram q\nfree\nmap 512 4 rw\nw 2097152 07\nfree\nr 16384 1\njfail no\nr 0 4\nw 0 00\njfail yes\nfree\nlabel no\nlabel yes\nend\ndomain p 8 1 open\ndomain q 9 0 open\nturns 1 2 1 1 2 1 1 2\nturns 2 1 daemon 3 daemon\n",
-        status: 0,
-        text: "transcript 1\n1:0 clone = begin 3\n2:0 free = 37\n2:1 map 512 4 rw = ok\n2:2 w 2097152 07 = ok\n1:0 commit = 3\ndaemon = 3\n3:1 jchild kid = go\n1:1 jchild kid = on\n2:3 free = 36\n1:2 free = 36\n2:4 r 16384 1 = 07\n2:5 jfail no = on\n3:6 w 16384 63 = ok\n1:3 w 16384 62 = ok\n2:6 r 0 4 = 02000000\n3:7 exit = ended\n1:4 free = 42\n2:7 w 0 00 = no readonly\n1:5 exit = ended\n2:8 jfail yes = go\n2:10 exit = ended\nframes 64 colours 0 tables 0 spares 0 aside 0 free 64\nend ended\n",
-    },
-    // Every id is given.
-    Case {
-        script: "nephele 1\nframes 630\nprogram p\nclone\nclone\nclone\nclone\nclone\nclone\nend\ndomain p 8 6 open\n",
-        status: 0,
-        text: "transcript 1\n1:0 clone = begin 2\n1:0 commit = 2\ndaemon = 2\n1:1 clone = begin 3\n2:1 clone = begin 4\n1:1 commit = 3\n2:1 commit = 4\ndaemon = 3\n1:2 clone = begin 5\n3:2 clone = begin 6\ndaemon = 4\n2:2 clone = begin 7\n4:2 clone = begin 8\n1:2 commit = 5\n3:2 commit = 6\ndaemon = 5\n1:3 clone = begin 9\n2:2 commit = 7\n4:2 commit = 8\n5:3 clone = begin 10\ndaemon = 6\n3:3 clone = begin 11\n6:3 clone = begin 12\ndaemon = 7\n2:3 clone = begin 13\n7:3 clone = begin 14\ndaemon = 8\n4:3 clone = begin 15\n8:3 clone = begin 16\n1:3 commit = 9\n5:3 commit = 10\ndaemon = 9\n1:4 clone = begin 17\n3:3 commit = 11\n6:3 commit = 12\n9:4 clone = begin 18\ndaemon = 10\n2:3 commit = 13\n5:4 clone = begin 19\n7:3 commit = 14\n10:4 clone = begin 20\ndaemon = 11\n3:4 clone = begin 21\n4:3 commit = 15\n8:3 commit = 16\n11:4 clone = begin 22\ndaemon = 12\n6:4 clone = begin 23\n12:4 clone = begin 24\ndaemon = 13\n2:4 clone = begin 25\n13:4 clone = begin 26\ndaemon = 14\n1:4 commit = 17\n7:4 clone = begin 27\n9:4 commit = 18\n14:4 clone = begin 28\ndaemon = 15\n4:4 clone = begin 29\n5:4 commit = 19\n10:4 commit = 20\n15:4 clone = begin 30\ndaemon = 16\n3:4 commit = 21\n8:4 clone = begin 31\n11:4 commit = 22\n16:4 clone = begin 32\ndaemon = 17\n1:5 clone = begin 33\n6:4 commit = 23\n12:4 commit = 24\n17:5 clone = begin 34\ndaemon = 18\n2:4 commit = 25\n9:5 clone = begin 35\n13:4 commit = 26\n18:5 clone = begin 36\ndaemon = 19\n5:5 clone = begin 37\n7:4 commit = 27\n14:4 commit = 28\n19:5 clone = begin 38\ndaemon = 20\n4:4 commit = 29\n10:5 clone = begin 39\n15:4 commit = 30\n20:5 clone = begin 40\ndaemon = 21\n3:5 clone = begin 41\n8:4 commit = 31\n16:4 commit = 32\n21:5 clone = begin 42\ndaemon = 22\n1:5 commit = 33\n11:5 clone = begin 43\n17:5 commit = 34\n22:5 clone = begin 44\ndaemon = 23\n6:5 clone = begin 45\n9:5 commit = 35\n18:5 commit = 36\n23:5 clone = begin 46\ndaemon = 24\n5:5 commit = 37\n12:5 clone = begin 47\n19:5 commit = 38\n24:5 clone = begin 48\ndaemon = 25\n2:5 clone = begin 49\n10:5 commit = 39\n20:5 commit = 40\n25:5 clone = begin 50\ndaemon = 26\n3:5 commit = 41\n13:5 clone = begin 51\n21:5 commit = 42\n26:5 clone = begin 52\ndaemon = 27\n7:5 clone = begin 53\n11:5 commit = 43\n22:5 commit = 44\n27:5 clone = begin 54\ndaemon = 28\n6:5 commit = 45\n14:5 clone = begin 55\n23:5 commit = 46\n28:5 clone = begin 56\ndaemon = 29\n4:5 clone = begin 57\n12:5 commit = 47\n24:5 commit = 48\n29:5 clone = begin 58\ndaemon = 30\n2:5 commit = 49\n15:5 clone = begin 59\n25:5 commit = 50\n30:5 clone = begin 60\ndaemon = 31\n8:5 clone = begin 61\n13:5 commit = 51\n26:5 commit = 52\n31:5 clone = begin 62\ndaemon = 32\n7:5 commit = 53\n16:5 clone = begin 63\n27:5 commit = 54\n32:5 clone = no ids\ndaemon = 33\n1:6 exit = ended\n14:5 commit = 55\n28:5 commit = 56\n32:6 exit = ended\n33:6 exit = ended\ndaemon = 34\n4:5 commit = 57\n17:6 exit = ended\n29:5 commit = 58\n34:6 exit = ended\ndaemon = 35\n9:6 exit = ended\n15:5 commit = 59\n30:5 commit = 60\n35:6 exit = ended\ndaemon = 36\n8:5 commit = 61\n18:6 exit = ended\n31:5 commit = 62\n36:6 exit = ended\ndaemon = 37\n5:6 exit = ended\n16:5 commit = 63\n37:6 exit = ended\ndaemon = 38\n19:6 exit = ended\n38:6 exit = ended\ndaemon = 39\n10:6 exit = ended\n39:6 exit = ended\ndaemon = 40\n20:6 exit = ended\n40:6 exit = ended\ndaemon = 41\n3:6 exit = ended\n41:6 exit = ended\ndaemon = 42\n21:6 exit = ended\n42:6 exit = ended\ndaemon = 43\n11:6 exit = ended\n43:6 exit = ended\ndaemon = 44\n22:6 exit = ended\n44:6 exit = ended\ndaemon = 45\n6:6 exit = ended\n45:6 exit = ended\ndaemon = 46\n23:6 exit = ended\n46:6 exit = ended\ndaemon = 47\n12:6 exit = ended\n47:6 exit = ended\ndaemon = 48\n24:6 exit = ended\n48:6 exit = ended\ndaemon = 49\n2:6 exit = ended\n49:6 exit = ended\ndaemon = 50\n25:6 exit = ended\n50:6 exit = ended\ndaemon = 51\n13:6 exit = ended\n51:6 exit = ended\ndaemon = 52\n26:6 exit = ended\n52:6 exit = ended\ndaemon = 53\n7:6 exit = ended\n53:6 exit = ended\ndaemon = 54\n27:6 exit = ended\n54:6 exit = ended\ndaemon = 55\n14:6 exit = ended\n55:6 exit = ended\ndaemon = 56\n28:6 exit = ended\n56:6 exit = ended\ndaemon = 57\n4:6 exit = ended\n57:6 exit = ended\ndaemon = 58\n29:6 exit = ended\n58:6 exit = ended\ndaemon = 59\n15:6 exit = ended\n59:6 exit = ended\ndaemon = 60\n30:6 exit = ended\n60:6 exit = ended\ndaemon = 61\n8:6 exit = ended\n61:6 exit = ended\ndaemon = 62\n31:6 exit = ended\n62:6 exit = ended\ndaemon = 63\n16:6 exit = ended\n63:6 exit = ended\nframes 630 colours 0 tables 0 spares 0 aside 0 free 630\nend ended\n",
-    },
-    // A limit comes before the frames that a clone needs; a script needs none for its clones.
-    Case {
-        script: "nephele 1\nframes 16\nprogram p\nclone\nend\ndomain p 8 0 open\n",
-        status: 0,
-        text: "transcript 1\n1:0 clone = no limit\n1:1 exit = ended\nframes 16 colours 0 tables 0 spares 0 aside 0 free 16\nend ended\n",
-    },
-    // A clone needs exactly the frames that are free.
-    Case {
-        script: "nephele 1\nframes 16\nprogram p\nfree\nclone\nfree\nend\ndomain p 8 1 open\n",
-        status: 0,
-        text: "transcript 1\n1:0 free = 6\n1:1 clone = begin 2\n1:1 commit = 2\ndaemon = 2\n1:2 free = 0\n2:2 free = 0\n1:3 exit = ended\n2:3 exit = ended\nframes 16 colours 0 tables 0 spares 0 aside 0 free 16\nend ended\n",
-    },
-    // A clone needs one frame more than are free.
-    Case {
-        script: "nephele 1\nframes 16\nprogram p\nfree\nclone\nfree\nend\ndomain p 9 1 open\n",
-        status: 0,
-        text: "transcript 1\n1:0 free = 5\n1:1 clone = no frames 6 5\n1:2 free = 5\n1:3 exit = ended\nframes 16 colours 0 tables 0 spares 0 aside 0 free 16\nend ended\n",
-    },
-    // A clone needs a frame for each leaf table, also for one without mappings.
-    Case {
-        script: "nephele 1\nframes 17\nprogram p\nmap 512 4 rw\nclone\njfail no\nexit\nlabel no\nunmap 512\nclone\nfree\nend\ndomain p 8 1 open\n",
-        status: 0,
-        text: "transcript 1\n1:0 map 512 4 rw = ok\n1:1 clone = no frames 7 6\n1:2 jfail no = go\n1:4 unmap 512 = ok\n1:5 clone = no frames 7 6\n1:6 free = 6\n1:7 exit = ended\nframes 17 colours 0 tables 0 spares 0 aside 0 free 17\nend ended\n",
-    },
-    // A copy lacks a frame. It is made when another domain has ended.
-    Case {
-        script: "nephele 1\nframes 26\nprogram p\nw 16384 61\nclone\njchild kid\nw 16384 62\nfree\nw 16384 62\nfree\nr 16384 1\nexit\nlabel kid\nr 16384 1\nend\nprogram q\nend\ndomain p 8 1 open\ndomain q 8 0 open\nturns 1 1 1 1 1 1 1 daemon 1 1 1 1 2 1 1 1 1\n",
-        status: 0,
-        text: "transcript 1\n1:0 w 16384 61 = ok\n1:1 clone = begin 3\n1:1 commit = 3\ndaemon = 3\n1:2 jchild kid = on\n1:3 w 16384 62 = no noframe\n1:4 free = 0\n2:0 exit = ended\n1:5 w 16384 62 = ok\n1:6 free = 9\n1:7 r 16384 1 = 62\n3:2 jchild kid = go\n1:8 exit = ended\n3:9 r 16384 1 = 61\n3:10 exit = ended\nframes 26 colours 0 tables 0 spares 0 aside 0 free 26\nend ended\n",
-    },
-    // A leaf table lacks a frame.
-    Case {
-        script: "nephele 1\nframes 16\nprogram p\nfree\nmap 512 4 rw\nmap 20 4 rw\nw 81920 07\nr 16384 1\nclone\nend\ndomain p 14 1 open\n",
-        status: 0,
-        text: "transcript 1\n1:0 free = 0\n1:1 map 512 4 rw = no noframe\n1:2 map 20 4 rw = ok\n1:3 w 81920 07 = ok\n1:4 r 16384 1 = 07\n1:5 clone = no frames 6 0\n1:6 exit = ended\nframes 16 colours 0 tables 0 spares 0 aside 0 free 16\nend ended\n",
-    },
-    Case {
-        script: "nephele 2\n",
-        status: 4,
-        text: "script 1 number\n",
-    },
-    Case {
-        script: "nephele 1\nframes 15\n",
-        status: 4,
-        text: "script 2 number\n",
-    },
-    Case {
-        script: "nephele 1\nframes 16\nprogram p\nfly\n",
-        status: 4,
-        text: "script 4 word\n",
-    },
-    Case {
-        script: "nephele 1\nframes 16\nprogram p\nr 0\n",
-        status: 4,
-        text: "script 4 form\n",
-    },
-    Case {
-        script: "nephele 1\nframes 16\nprogram p\nw 4095 0000\n",
-        status: 4,
-        text: "script 4 hex\n",
-    },
-    Case {
-        script: "nephele 1\nframes 16\nprogram p\nlabel a\njump a\nend\n",
-        status: 4,
-        text: "script 6 label\n",
-    },
-    Case {
-        script: "nephele 1\nframes 16\nprogram p\nend\ndomain q 8 0 open\n",
-        status: 4,
-        text: "script 5 program\n",
-    },
-    Case {
-        script: "nephele 1\nframes 16\nprogram p\nend\ndomain p 16 0 open\n",
-        status: 4,
-        text: "script 5 frames\n",
-    },
-    Case {
-        script: "nephele 1\nframes 16\nprogram p\nend\nprogram p\n",
-        status: 4,
-        text: "script 5 name\n",
-    },
-    Case {
-        script: "nephele 1\nframes 16\nprogram p\nend\n",
-        status: 4,
-        text: "script 5 missing\n",
-    },
-    Case {
-        script: "nephele 1\nframes 16\nprogram a\nend\nprogram b\nend\nprogram c\nend\nprogram d\nend\nprogram e\nend\nprogram f\nend\nprogram g\nend\nprogram h\nend\nprogram i\nend\nprogram j\nend\nprogram k\nend\nprogram l\nend\nprogram m\nend\nprogram n\nend\nprogram o\nend\nprogram p\nend\nprogram z\n",
-        status: 4,
-        text: "script 35 many\n",
-    },
-    Case {
-        script: "nephele 1\nframes 16\nprogram p\n\tfly\n",
-        status: 4,
-        text: "script 4 bytes\n",
-    },
-    Case {
-        script: "",
-        status: 4,
-        text: "script 1 missing\n",
-    },
-    Case {
-        script: "nephele 1\nframes 16\nprogram p\nend\ndomain p 8 0 exclusive\n",
-        status: 4,
-        text: "script 5 unbuilt\n",
+    // Actors of a line.
+    Many {
+        before: "nephele 1\nframes 16\nprogram p\nend\ndomain p 8 0 open\nturns",
+        again: " p9",
+        times: 65,
+        told: "script 6 many\n",
     },
 ];
 
@@ -212,32 +625,92 @@ fn sink(alloc: Global, step: u32, failing: &[u32]) -> Result<MemSink, AllocError
 }
 
 // Runs a script, with so many bytes a call.
-fn expect(rt: &impl Abort, alloc: Global, case: &Case, step: u32) -> Result<(), AllocError>
+fn expect(
+    rt: &impl Abort,
+    alloc: Global,
+    script: &[u8],
+    step: u32,
+    status: u8,
+    text: &str,
+) -> Result<(), AllocError>
     requires { 0 < step }
 {
-    let mut from = source(alloc, case.script.as_bytes(), step, &[])?;
+    let mut from = source(alloc, script, step, &[])?;
     let mut to = sink(alloc, step, &[])?;
     assert_eq!(rt;
         run_call(alloc, &mut from, &mut to, &mut Tally::new()),
-        case.status
+        status,
+        "for {text}"
     );
-    assert_eq!(rt; to.taken(), case.text.as_bytes());
+    assert_eq!(rt; to.taken(), text.as_bytes());
     Ok(())
 }
 
 #[test]
 fn scripts_and_what_they_write(rt: HostRuntime) -> Result<(), Fail> {
     for case in &CASES {
-        expect(&rt, rt.alloc(), case, 4096)?;
-        expect(&rt, rt.alloc(), case, 1)?;
+        expect(&rt, rt.alloc(), case.script.as_bytes(), 4096, 0, case.text)?;
+        expect(&rt, rt.alloc(), case.script.as_bytes(), 1, 0, case.text)?;
     }
     Ok(())
 }
 
+// A text with something in it so many times, and then a line.
+fn text_of(
+    alloc: Global,
+    before: &str,
+    again: &str,
+    times: u32,
+    line: &str,
+) -> Result<Vec<u8>, AllocError> {
+    let mut text = Vec::from_slice(alloc, before.as_bytes())?;
+    for _ in 0..times {
+        text.extend_from_slice(again.as_bytes())?;
+    }
+    text.extend_from_slice(line.as_bytes())?;
+    Ok(text)
+}
+
+#[test]
+fn refusals(rt: HostRuntime) -> Result<(), Fail> {
+    for (before, line, told) in &REFUSED {
+        let text = text_of(rt.alloc(), before, "", 0, line)?;
+        expect(&rt, rt.alloc(), &text, 4096, 4, told)?;
+    }
+    Ok(())
+}
+
+#[test]
+fn one_too_many(rt: HostRuntime) -> Result<(), Fail> {
+    for many in &MANY {
+        let text = text_of(rt.alloc(), many.before, many.again, many.times, "")?;
+        expect(&rt, rt.alloc(), &text, 4096, 4, many.told)?;
+    }
+    let text = labelled(rt.alloc(), 513)?;
+    expect(&rt, rt.alloc(), &text, 4096, 4, "script 516 many\n")?;
+    Ok(())
+}
+
+// A program with so many labels.
+fn labelled(alloc: Global, count: u32) -> Result<Vec<u8>, AllocError> {
+    let mut text = Vec::from_slice(alloc, INSIDE.as_bytes())?;
+    for n in 0..count {
+        text.extend_from_slice(b"label l")?;
+        text.extend_from_slice(Buffer::new().format(n).as_bytes())?;
+        text.extend_from_slice(b"\n")?;
+    }
+    Ok(text)
+}
+
 // Runs a script, whose run makes so many page steps.
-fn expect_steps(rt: &impl Abort, alloc: Global, case: &Case, steps: u64) -> Result<(), AllocError> {
+fn expect_steps(
+    rt: &impl Abort,
+    alloc: Global,
+    script: &str,
+    steps: u64,
+) -> Result<(), AllocError> {
     let mut tally = Tally::new();
-    let mut from = source(alloc, case.script.as_bytes(), 4096, &[])?;
+    let mut from = source(alloc, script.as_bytes(), 4096, &[])?;
     let mut to = sink(alloc, 4096, &[])?;
     assert_eq!(rt; run_call(alloc, &mut from, &mut to, &mut tally), 0);
     assert_eq!(rt; tally.shares(), steps);
@@ -248,9 +721,9 @@ fn expect_steps(rt: &impl Abort, alloc: Global, case: &Case, steps: u64) -> Resu
 #[test]
 fn page_steps_are_tallied(rt: HostRuntime) -> Result<(), Fail> {
     let alloc = rt.alloc();
-    expect_steps(&rt, alloc, &CASES[0], 0)?;
-    expect_steps(&rt, alloc, &CASES[1], 4)?;
-    expect_steps(&rt, alloc, &CASES[5], 0)?;
+    expect_steps(&rt, alloc, ONE_GUEST, 0)?;
+    expect_steps(&rt, alloc, CLONE, 4)?;
+    expect_steps(&rt, alloc, LIMIT_FIRST.script, 0)?;
     Ok(())
 }
 
@@ -266,12 +739,10 @@ fn told(reply: &Reply) -> Told {
 
 // The plain machine answers each entry of a script's run as the machine over frames did, and no
 // domain is live then.
-fn expect_plain(rt: &impl Abort, alloc: Global, case: &Case) -> Result<(), Fail> {
-    let text = case.script.as_bytes();
+fn expect_plain(rt: &impl Abort, alloc: Global, script: &str) -> Result<(), Fail> {
+    let text = script.as_bytes();
     assert!(rt; text.len() <= 1_048_576);
-    let Ok(script) = parse(alloc, text) else {
-        return Ok(());
-    };
+    let script = parse(alloc, text)?;
     let played = play(alloc, &script)?;
     let mut plain = Plain::start(alloc, &script)?;
     for Noted { entry, reply } in played.machine.history() {
@@ -284,7 +755,10 @@ fn expect_plain(rt: &impl Abort, alloc: Global, case: &Case) -> Result<(), Fail>
 #[test]
 fn the_plain_machine_answers_each_run_alike(rt: HostRuntime) -> Result<(), Fail> {
     for case in &CASES {
-        expect_plain(&rt, rt.alloc(), case)?;
+        expect_plain(&rt, rt.alloc(), case.script)?;
+    }
+    for script in EXAMPLES {
+        expect_plain(&rt, rt.alloc(), script)?;
     }
     Ok(())
 }
@@ -305,15 +779,13 @@ fn expect_faults(rt: &impl Abort, alloc: Global, case: &Case, call: u32) -> Resu
 
 #[test]
 fn faults_of_source_and_sink(rt: HostRuntime) -> Result<(), Fail> {
-    for case in CASES.iter().take(1) {
-        for call in 0..14 {
-            expect_faults(&rt, rt.alloc(), case, call)?;
-        }
+    for call in 0..14 {
+        expect_faults(&rt, rt.alloc(), &ONE_FRAME_SHORT, call)?;
     }
     Ok(())
 }
 
-// The status and the text of a call with these words on the first example.
+// The status and the text of a call with these words on a script.
 fn call<R: Threads + Wait + Sync>(
     alloc: Global,
     rt: &R,
@@ -323,7 +795,7 @@ fn call<R: Threads + Wait + Sync>(
     for word in line {
         words.push(String::from_str(alloc, word)?)?;
     }
-    let mut from = source(alloc, CASES[0].script.as_bytes(), 50, &[])?;
+    let mut from = source(alloc, ENOUGH.script.as_bytes(), 50, &[])?;
     let mut to = sink(alloc, 50, &[])?;
     let status = top(alloc, rt, &words, &mut from, &mut to, &mut Tally::new());
     Ok((status, to))
@@ -347,7 +819,7 @@ fn words(rt: HostRuntime) -> Result<(), Fail> {
     }
     let (status, to) = call(alloc, &rt, &["run"])?;
     assert_eq!(rt; status, 0);
-    assert_eq!(rt; to.taken(), CASES[0].text.as_bytes());
+    assert_eq!(rt; to.taken(), ENOUGH.text.as_bytes());
     Ok(())
 }
 
