@@ -1,5 +1,5 @@
 // Finite maps from numbers.
-ghost use Rattle.std.specs.Prelude.{◌≡◌, OnOk, OnErr};
+ghost use Rattle.std.specs.Prelude.{◌≡◌, OnOk, OnErr, None};
 ghost use Rattle.std.specs.Option.{option_copied};
 ghost use Rattle.std.specs.FinMap as map;
 
@@ -53,10 +53,12 @@ impl<V: Drop> NumberMap<V> {
         self.entries.len()
     }
 
-    /// Puts this at a number, in place of what stood there.
+    /// Puts this at a number, in place of what stood there. Only a number where nothing stood takes
+    /// memory.
     pub fn insert(&mut self, at: u32, to: V) -> Result<(), NoMemory>
         ensures ok { OnOk result (self.new ≡ map.insert self.old at to) }
         ensures err { OnErr result (self.new ≡ self.old) }
+        ensures absent { OnErr result (map.get self.old at ≡ None) }
     {
         self.entries.insert(at, to)?;
         Ok(())

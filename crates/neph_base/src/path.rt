@@ -1,5 +1,5 @@
 // The paths of XenStore.
-ghost use Rattle.std.specs.Prelude.{◌≡◌, ◌↔◌, IsTrue, IfOk};
+ghost use Rattle.std.specs.Prelude.{◌≡◌, ◌↔◌, IsTrue, IfOk, OnErr};
 ghost use Rattle.std.specs.List.{list_all};
 ghost use Rattle.std.specs.Option.{SomeIff};
 ghost use Rattle.neph_base.specs.Path.{is_component, is_path_byte, is_path, parts, IsStorePath};
@@ -34,9 +34,11 @@ impl Model for Path {
 }
 
 impl Path {
-    /// The path that the text spells, `None` exactly where it spells none.
+    /// The path that the text spells, `None` exactly where it spells none. Only a path takes
+    /// memory.
     pub fn new(alloc: Global, text: &str) -> Result<Option<Path>, NoMemory>
-        ensures { IfOk result (λ p. SomeIff p (IsStorePath text.now) text.now) }
+        ensures spelled { IfOk result (λ p. SomeIff p (IsStorePath text.now) text.now) }
+        ensures lacks { OnErr result (IsStorePath text.now) }
     {
         let given = text.as_bytes();
         if !is_store_path(given) {

@@ -27,7 +27,7 @@ pub fn local(
     requires mapped { IsMapped o.old }
     requires alone { length o.old.alone ≡ length o.old.pages }
     requires room { o.old.line < 65535 }
-    ensures { LocalDone command.now o.old o.new result
+    ensures { LocalDone command.now told o.old o.new result
         (local_step script.now program o.old told command.now) }
 {
     match command {

@@ -3,7 +3,7 @@ ghost use Rattle.std.specs.Prelude.{◌≡◌, ◌+◌, ◌/◌, ◌%◌, ◌≤
 ghost use Rattle.std.specs.FinMap as map;
 ghost use Rattle.neph_model.specs.Own.{w_step, r_step, map_step, unmap_step, mapping_at};
 ghost use Rattle.neph_flat.specs.Sound.{IsMapped};
-ghost use Rattle.neph_flat.specs.Local.{RowDone, RowDoneOrLacks};
+ghost use Rattle.neph_flat.specs.Local.{RowDone, RowDoneOrLacks, MapTakes};
 
 use neph_base::{Mode, NoMemory, Pfn, Piece, Refusal, Reply, TryClone, VAddr, Vpn};
 use neph_model::{Leaves, Mapping, Own, Told};
@@ -57,10 +57,12 @@ pub fn read(o: &Own, addr: VAddr, len: u8) -> Row
     Some(Ok(Reply::Bytes(piece)))
 }
 
-/// Lets a virtual page map to a page, in place of what it mapped to.
+/// Lets a virtual page map to a page, in place of what it mapped to. Only one that maps to nothing
+/// or has no leaf table takes memory.
 pub fn map(o: &mut Own, told: Told, vpn: Vpn, pfn: Pfn, mode: Mode) -> Result<Row, NoMemory>
     ensures line { o.new.line ≡ o.old.line }
-    ensures did { RowDoneOrLacks o.old o.new result (map_step o.old told vpn pfn mode) }
+    ensures did { RowDoneOrLacks (MapTakes o.old told vpn pfn mode) o.old o.new result
+        (map_step o.old told vpn pfn mode) }
 {
     if o.is_bad_pfn(pfn, mode) {
         return Ok(Some(Err(Refusal::BadPfn)));

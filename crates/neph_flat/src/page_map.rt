@@ -27,7 +27,7 @@ impl Model for PageMap {
 }
 
 impl PageMap {
-    ghost use Rattle.std.specs.Prelude.{◌≡◌, ◌+◌, ◌≤◌, length, take, drop, true, [], is_some, unwrap_or, IfOk, OnOk, OnErr, IsSome};
+    ghost use Rattle.std.specs.Prelude.{◌≡◌, ◌+◌, ◌≤◌, length, take, drop, true, [], is_some, unwrap_or, None, IfOk, OnOk, OnErr, IsSome};
     ghost use Rattle.std.specs.Option.{option_copied};
     ghost use Rattle.std.specs.FinMap as map;
     ghost use Rattle.neph_model.specs.Memory.{page_with_bytes};
@@ -55,10 +55,11 @@ impl PageMap {
         self.pages.len()
     }
 
-    /// Puts a page at a number.
+    /// Puts a page at a number. Only a number where no page stood takes memory.
     pub fn insert(&mut self, pfn: u32, page: Page) -> Result<(), NoMemory>
         ensures ok { OnOk result (self.new ≡ map.insert self.old pfn page) }
         ensures err { OnErr result (self.new ≡ self.old) }
+        ensures absent { OnErr result (map.get self.old pfn ≡ None) }
     {
         self.pages.insert(pfn, page)?;
         Ok(())

@@ -60,7 +60,8 @@ impl Plain {
     }
 
     /// Does an entry, told this of the free frames, where it is due: `NotNext` exactly where it
-    /// isn't. An `Err` changes nothing, and only a `map` and a commit take memory.
+    /// isn't. An `Err` changes nothing. Only a commit takes memory, and a `map` that the domain
+    /// does by itself, of a virtual page that maps to nothing or has no leaf table.
     pub fn step(&mut self, e: &Entry, told: Told) -> Result<Reply, FlatEnd>
         ensures did { StepAnswers self.old.script self.old.machine self.new.machine e.now told
             result }

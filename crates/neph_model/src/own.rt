@@ -37,12 +37,14 @@ impl Pages {
         &self.list
     }
 
-    /// Writes these bytes into a page of its own at an offset.
+    /// Writes these bytes into a page of its own at an offset. Where no page is there, nothing
+    /// changes.
     pub fn write(&mut self, pfn: usize, at: usize, bytes: &[u8])
         requires there { pfn < length self.old }
         requires inside { at + length bytes.now ≤ 4096 }
-        ensures { (page : List ℕ) → slice_index_or self.old pfn None ≡ Some page
+        ensures page { (page : List ℕ) → slice_index_or self.old pfn None ≡ Some page
             → self.new ≡ slice_set self.old pfn (Some (page_with_bytes page at bytes.now)) }
+        ensures none { slice_index_or self.old pfn None ≡ None → self.new ≡ self.old }
     {
         if let Some(page) = &mut self.list[pfn] {
             page.write(at, bytes);
@@ -60,11 +62,12 @@ impl TryClone for Pages {
     }
 }
 
-ghost use Rattle.std.specs.Prelude.{IfOk};
+ghost use Rattle.std.specs.Prelude.{IfOk, OnErr, IsSome};
 
 // A page that may be there, in memory of its own.
 fn copied(page: &Option<Page>) -> Result<Option<Page>, NoMemory>
-    ensures { IfOk result (λ c. c ≡ page.now) }
+    ensures copy { IfOk result (λ c. c ≡ page.now) }
+    ensures lacks { OnErr result (IsSome page.now) }
 {
     match page {
         Some(page) => Ok(Some(page.copy()?)),

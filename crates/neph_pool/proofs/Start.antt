@@ -92,6 +92,7 @@ started n cap xs small is = rw is record {
   };
   names = true_at 64;
   entries = all_same (entry_of 0) n blank_entry kept_blank;
+  met = refl;
   frames = length_start n;
   most = refl;
   shares = refl;

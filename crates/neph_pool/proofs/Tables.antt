@@ -149,6 +149,7 @@ module _ (p : PlainPool) (s : PlainSeat) (h : PlainFits p s) (d : ℕ) (small : 
     };
     names = λ i e. new_name d e small i;
     entries = empty_row p d h.kept ne unnamed;
+    met = refl;
   }
 
   -- the seat that gave the name

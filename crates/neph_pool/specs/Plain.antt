@@ -44,11 +44,13 @@ plain_world = record {
   told = λ p. Some (counts_of p);
 }
 
--- a new pool of n frames, with a seat that keeps all of them, as zeros, and has every name
+-- a new pool of n frames, with a seat that keeps all of them, as zeros, has every name and has met
+-- no count yet
 pub record IsStart (n cap : ℕ) (p : PlainPool) (s : PlainSeat) : Type 0 where
   pub fits : PlainFits p s
   pub names : (d : ℕ) → d < 64 → plain_names s d ≡ true
   pub entries : plain_world.entries p s ≡ replicate n blank_entry
+  pub met : plain_world.met s ≡ 0
   pub frames : plain_world.frames p ≡ n
   pub most : plain_world.cap p ≡ cap
   pub shares : plain_world.shares p ≡ 0

@@ -52,11 +52,12 @@ module _ {Pool Seat : Type 0} (W : World Pool Seat) where
     pub shares : W.shares q ≡ W.shares p
     pub told : W.told q ≡ W.told p
 
-  -- a new seat with one name and no entry
+  -- a new seat with one name and no entry, which has met no count yet
   pub record IsFresh (q : Pool) (t : Seat) (d : ℕ) : Type 0 where
     pub fits : W.fits q t
     pub names : W.names t ≡ only_name d
     pub entries : W.entries q t ≡ nothing (W.frames q)
+    pub met : W.met t ≡ 0
 
 -- the counts after that of one frame changed
 abbrev pub recounted : (ℕ → ℕ) → ℕ → Option (List ℕ) → Option (List ℕ)

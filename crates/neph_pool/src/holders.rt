@@ -104,6 +104,7 @@ impl Holders {
             Owners::Many(weights) => self.put_weights(f, weights),
         }
     }
+
     /// How many references of the frame `f` there are.
     pub fn total(&self, f: usize) -> u32
         requires { f < holder_count self.now }

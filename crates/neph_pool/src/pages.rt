@@ -89,6 +89,8 @@ impl Pages {
         requires word { w < FRAME_WORDS }
         ensures words { words_of self.new ≡ slice_set (words_of self.old) f
             (slice_set (slice_index_or (words_of self.old) f []) w v) }
+        ensures zero { v ≡ 0 → slice_index self.old.places.items f ≡ 0
+            → vec_len self.new.made ≡ vec_len self.old.made }
         ensures frames { frame_count self.new ≡ frame_count self.old }
     {
         if v == 0 && self.places[f] == 0 {
@@ -102,6 +104,7 @@ impl Pages {
     pub fn blank(&mut self, f: usize)
         requires { f < frame_count self.old }
         ensures words { words_of self.new ≡ slice_set (words_of self.old) f blank_page }
+        ensures made { vec_len self.new.made ≡ vec_len self.old.made }
         ensures frames { frame_count self.new ≡ frame_count self.old }
     {
         let place = self.places[f] as usize;
@@ -110,11 +113,13 @@ impl Pages {
         }
     }
 
-    /// The frame `to` gets the words of the frame `from`.
+    /// The frame `to` gets the words of the frame `from`. One without a page of its own makes none.
     pub fn copy(&mut self, from: usize, to: usize)
         requires frames { (from < frame_count self.old) × (to < frame_count self.old) }
         ensures words { words_of self.new
             ≡ slice_set (words_of self.old) to (slice_index_or (words_of self.old) from []) }
+        ensures zero { slice_index self.old.places.items from ≡ 0
+            → vec_len self.new.made ≡ vec_len self.old.made }
         ensures frames { frame_count self.new ≡ frame_count self.old }
     {
         let source = self.places[from] as usize;

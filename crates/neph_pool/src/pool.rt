@@ -171,8 +171,8 @@ pub trait FramePool {
             self.old self.new }
         ensures counts { SameCounts world self.old self.new };
 
-    /// A new seat, which takes the name `d` from this one and has no entry. This seat keeps all
-    /// entries.
+    /// A new seat, which takes the name `d` from this one, and has no entry and met no count. This
+    /// seat keeps all entries.
     fn fresh(&mut self, s: &mut Self::Seat, d: DomId) -> Result<Self::Seat, NoMemory>
         requires seat { world.fits self.old s.old }
         requires names { (world.names s.old 0 ≡ true) × (world.names s.old d ≡ true) }

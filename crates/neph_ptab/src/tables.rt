@@ -76,6 +76,7 @@ impl<P: FramePool> Tables<P> {
             ≡ Some f → f < MAX_FRAMES }
         ensures leaf { result ≡ leaf_at (P.world.entries pool.old seat.old) self.now.root i }
         ensures entries { P.world.entries pool.new seat.new ≡ P.world.entries pool.old seat.old }
+        ensures met { P.world.met seat.new ≡ P.world.met seat.old }
         ensures moves { Moves P.world pool.old seat.old pool.new seat.new }
         ensures counts { SameCounts P.world pool.old pool.new }
     {
@@ -192,6 +193,8 @@ impl<P: FramePool> Tables<P> {
             → words_at (P.world.entries pool.new seat.new) f
             ≡ words_at (P.world.entries pool.old seat.old) f }
         ensures stands { IsTables (P.world.entries pool.new seat.new) self.old.root }
+        ensures met { (P.world.met from.new ≡ P.world.met from.old)
+            × (P.world.met seat.new ≡ P.world.met seat.old) }
         ensures from { Stays P.world pool.new from.old from.new }
         ensures seat { Stays P.world pool.new seat.old seat.new }
         ensures others { Spares P.world (both_names (P.world.names from.old)
