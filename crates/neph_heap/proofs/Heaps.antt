@@ -347,7 +347,10 @@ module _ {Pool Seat : Type 0} (W : World Pool Seat) where
       }
 
   -- the frames put aside for a child are the seat's alone, and apart from those of exposed pages
-  pub aside_own : (p : Pool) (s : Seat) (l : Lists) (child parent : ℕ) → IsHeap W p s l [] → child < 64 → parent < 64 → (f : ℕ) → (times f (frames_of (exposed_of parent l)) + times f (aside_of child l) ≤ 1) × (0 < times f (frames_of (exposed_of parent l)) → hold_at (W.entries p s) f ≡ Some Sole) × (0 < times f (aside_of child l) → hold_at (W.entries p s) f ≡ Some Sole) × (0 < times f (exposed_frames l.exposed) → times f (aside_of child l) ≡ 0)
+  abbrev pub IsAsideOwn : Pool → Seat → Lists → ℕ → ℕ → ℕ → Type 0
+  IsAsideOwn p s l child parent f = (times f (frames_of (exposed_of parent l)) + times f (aside_of child l) ≤ 1) × (0 < times f (frames_of (exposed_of parent l)) → hold_at (W.entries p s) f ≡ Some Sole) × (0 < times f (aside_of child l) → hold_at (W.entries p s) f ≡ Some Sole) × (0 < times f (exposed_frames l.exposed) → times f (aside_of child l) ≡ 0)
+
+  pub aside_own : (p : Pool) (s : Seat) (l : Lists) (child parent : ℕ) → IsHeap W p s l [] → child < 64 → parent < 64 → (f : ℕ) → IsAsideOwn p s l child parent f
   unfolding exposed_frames aside_frames
   aside_own p s l child parent h lc lp f =
       let part = times_in f frames_of l.exposed parent [] (omega (arith, lp, h.domains)) in

@@ -3,6 +3,7 @@ pub mod Places
 pub mod Leading
 pub mod Moving
 pub mod Writing
+pub mod Marking
 pub mod Looking
 pub mod Sparing
 pub mod Standing
