@@ -22,8 +22,7 @@ use Rattle.neph_local.specs.Copies.{IsChildOf}
 use Rattle.neph_local.specs.Forks.{Forks}
 use Rattle.neph_local.proofs.Halving.{child_memory}
 use Rattle.neph_guest.specs.declared.live.Live.{Live}
-use Rattle.neph_guest.specs.declared.live.Guest.{Guest}
-use Rattle.neph_guest.specs.declared.live.Stage.TheVariants as guest
+use Rattle.neph_guest.specs.Forked.{guest_behind}
 use Rattle.neph_guest.specs.OwnHalf.{IsOwnHalf}
 use Rattle.neph_rows.specs.Records.{shared_of}
 use Rattle.neph_heap.specs.Lists.{exposed_of, aside_of, frame_in}
@@ -41,18 +40,9 @@ use Rattle.neph_machine.proofs.Pairs.{PairMoved}
 use Rattle.neph_commit.proofs.Forked.{has_pages}
 use Rattle.neph_commit.proofs.Kept.{memory_kept}
 
--- the guest of a domain behind a commit at this line
-abbrev pub guest_then : ℕ → ℕ → Bool → Guest
-guest_then dom line came = record {
-  dom = dom;
-  line = line + 1;
-  came = came;
-  failed = false;
-  stage = guest.Ready;
-}
-
+-- a domain behind a commit at this line
 abbrev pub live_then : {Pool Seat : Type 0} → ℕ → ℕ → Bool → DomLocal Pool Seat → Live Pool Seat
-live_then dom line came d = record { guest = guest_then dom line came; local = d }
+live_then dom line came d = record { guest = guest_behind dom line came; local = d }
 
 some_is : (o : Option ℕ) → IsSome o → is_some o ≡ true
 some_is None h = h

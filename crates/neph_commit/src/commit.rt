@@ -1,5 +1,5 @@
 // The commit of a clone in flight.
-ghost use Rattle.std.specs.Prelude.{◌≡◌, ◌<◌, ◌+◌, List, false};
+ghost use Rattle.std.specs.Prelude.{List};
 ghost use Rattle.neph_base.specs.declared.reply.Actor.{Actor};
 ghost use Rattle.neph_base.specs.declared.reply.Actor.TheVariants.{Dom};
 ghost use Rattle.neph_model.specs.Turns.{turn};
@@ -12,7 +12,7 @@ ghost use Rattle.neph_machine.specs.Surveyed.{IsSurveyed};
 ghost use Rattle.neph_machine.specs.Turned.{IsRunning, TookOrLacked};
 
 use neph_base::{DomId, Entry, NoMemory, Noted};
-use neph_guest::{Guest, Live, Stage};
+use neph_guest::Stage;
 use neph_machine::{Flight, Machine, Place, Turn, live_mut, put_live, put_place, take_flight};
 use neph_pool::FramePool;
 use std::alloc::Global;
@@ -40,11 +40,9 @@ pub fn commit_turn<P: FramePool>(
     let live = live_mut(&mut machine.places, id);
     let line = live.guest.line;
     let pool = &mut machine.pool;
-    match machine.hv.commit(alloc, pool, &mut live.local, flight.fork) {
-        Ok((local, reply)) => {
-            live.guest = guest_behind(id, line, false);
-            let guest = guest_behind(child, line, true);
-            put_live(&mut machine.places, child, Live { guest, local });
+    match neph_guest::commit_turn(alloc, live, flight.fork, &mut machine.hv, pool) {
+        Ok((born, reply)) => {
+            put_live(&mut machine.places, child, born);
             let entry = Entry::Commit { dom: id, line };
             Ok(Turn::Noted(Noted { entry, reply }))
         }
@@ -53,26 +51,5 @@ pub fn commit_turn<P: FramePool>(
             put_place(&mut machine.places, child, Place::Flight(flight));
             Err(NoMemory)
         }
-    }
-}
-
-// The guest of a domain behind the commit of a clone at a line: of its parent, or of the child,
-// which came by it.
-fn guest_behind(dom: DomId, line: u16, came: bool) -> Guest
-    requires room { line < 65535 }
-    ensures { result ≡ record {
-      dom = dom;
-      line = line + 1;
-      came = came;
-      failed = false;
-      stage = Stage.Ready;
-    } }
-{
-    Guest {
-        dom,
-        line: line + 1,
-        came,
-        failed: false,
-        stage: Stage::Ready,
     }
 }

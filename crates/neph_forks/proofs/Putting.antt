@@ -20,6 +20,10 @@ module _ {X Z : Type 0} (v : Vec X Z) where
   held : (ys : List X) → ys ≡ v.items → (ok : Fits ys) → holding ys ok ≡ v
   held ys e = subst (λ (zs : List X). (ok : Fits zs) → holding zs ok ≡ v) (sym e) (λ ok. ap (holding v.items) (same_fit ok v.ok))
 
+  -- a place to which was written what stood there
+  pub put_same : (i : ℕ) (a d : X) → get_or v.items i d ≡ a → with_item v i a ≡ v
+  put_same i a d here = held (set v.items i a) (ap (set v.items i) (sym here) ∙ set-get_or v.items i d) _
+
   -- the place j was emptied, and then the place i was written to, and j filled again
   module _ (one w : Vec X Z) (i j : ℕ) (a b e : X) (far : j ≢ i) (first : one ≡ with_item v j e) (last : w ≡ with_item (with_item one i a) j b) where
     all : w ≡ with_item (with_item (with_item v j e) i a) j b

@@ -12,8 +12,7 @@ ghost use Rattle.neph_machine.specs.StandsFor.{StandsFor};
 ghost use Rattle.neph_machine.specs.Turned.{IsRunning, Took};
 
 use neph_base::DomId;
-use neph_guest::Stage;
-use neph_local::fork_page;
+use neph_guest::{Stage, page_turn};
 use neph_machine::{Machine, Place, Turn, live_mut, put_place, take_flight};
 use neph_pool::FramePool;
 
@@ -34,7 +33,7 @@ pub fn step_page<P: FramePool>(machine: &mut Machine<P>, id: DomId, child: DomId
 {
     let mut flight = take_flight(&mut machine.places, child);
     let live = live_mut(&mut machine.places, id);
-    let stepped = fork_page(&mut machine.pool, &mut live.local, &mut flight.fork);
+    let stepped = page_turn(live, &mut machine.pool, &mut flight.fork);
     put_place(&mut machine.places, child, Place::Flight(flight));
     stepped
 }

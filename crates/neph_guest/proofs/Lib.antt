@@ -3,3 +3,4 @@ pub mod Staying
 pub mod Settling
 pub mod Copies
 pub mod Keeping
+pub mod GuestTurns

@@ -1,2 +1,4 @@
 pub mod OwnHalf
 pub mod Turns
+pub mod Turned
+pub mod Forked

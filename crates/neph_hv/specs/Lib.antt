@@ -1,2 +1,4 @@
 pub mod Hv
 pub mod Begins
+pub mod Serving
+pub mod Calls

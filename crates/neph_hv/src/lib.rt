@@ -2,10 +2,12 @@
 //! its lock for the domains, whose memories are handed in.
 #![tactic(auto)]
 
+mod ask;
 mod begin;
 mod commit;
 mod end;
 mod hv;
+mod hyper;
 
 pub use begin::Begin;
 pub use hv::Hv;

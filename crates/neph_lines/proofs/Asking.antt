@@ -1,13 +1,11 @@
 -- A line that its domain can't do by itself.
-use Rattle.std.proofs.Common.{◌≡◌, ◌≢◌, ℕ, ◌/◌, ◌%◌, ◌<◌, Bool, true, false, cond, List, take, drop, length, Some, None, Ok, refl, sym, ap, ◌∙◌}
-use Rattle.std.specs.Prelude.{is_some, not}
+use Rattle.std.proofs.Common.{◌≡◌, ◌≢◌, ℕ, ◌%◌, Bool, true, false, cond, List, Some, None, refl, sym, ap, ◌∙◌}
+use Rattle.std.specs.Prelude.{is_some}
 use Rattle.std.specs.declared.option.Option.{Option}
-use Rattle.std.specs.FinMap as fm
 use Rattle.std.specs.Option.{option_map}
 use Rattle.neph_base.specs.declared.command.Command.{Command}
 use Rattle.neph_base.specs.declared.command.Command.TheVariants as command
 use Rattle.neph_base.specs.declared.command.Mode.TheVariants.{Rw}
-use Rattle.neph_base.specs.declared.reply.Reply.TheVariants as reply
 use Rattle.neph_model.specs.declared.own.Own.{Own}
 use Rattle.neph_model.specs.declared.script.Script.{Script}
 use Rattle.neph_model.specs.declared.memory.Mapping.{Mapping}
@@ -15,17 +13,10 @@ use Rattle.neph_model.specs.declared.book.Book.{Book}
 use Rattle.neph_model.specs.declared.book.Move.TheVariants.{Copies, Does}
 use Rattle.neph_model.specs.declared.book.Spends.TheVariants.{Nothing}
 use Rattle.neph_model.specs.declared.told.Told.TheVariants.{Enough}
-use Rattle.neph_model.specs.Own.{LocalResult, page_of, mapping_at, is_bad_pfn, has_leaf, w_step, r_step, settle, local_step}
-use Rattle.neph_model.specs.Lent.{lent, nothing_lent}
-use Rattle.neph_model.specs.Machine.{Exposed}
-use Rattle.neph_model.specs.Trap.{is_exposed}
-use Rattle.neph_model.specs.Books.{Books, State}
+use Rattle.neph_model.specs.Own.{LocalResult, page_of, mapping_at, is_bad_pfn, has_leaf, w_step, settle, local_step}
+use Rattle.neph_model.specs.Books.{Books}
 use Rattle.neph_model.specs.Turns.{ready_move}
-use Rattle.neph_runs.specs.Orderly.{seat as part_at}
-use Rattle.neph_rows.specs.Row.{MeetsExposed, MayBeAsked}
-use Rattle.neph_machine.proofs.Reached.{IsReached, live_sound}
-use Rattle.neph_lines.specs.Lines.{told_of}
-use Rattle.neph_lines.proofs.Alone.{at_some}
+use Rattle.neph_lines.proofs.Lines.{told_of}
 use Rattle.neph_lines.proofs.InHand.{w_enough}
 use Rattle.neph_lines.proofs.Doing.{not_copied}
 
@@ -64,37 +55,3 @@ asked_move s p free bs o b command.Clone far e = absurd (far refl)
 pub asked_told : (s : Script) (p free : ℕ) (o : Own) (c : Command) → local_step s p o Enough c ≡ None → local_step s p o (told_of free c) c ≡ None
 asked_told s p free o command.Free e = refl
 asked_told s p free o _ e = e
-
-read_none : (o : Own) (at n : ℕ) (to : Mapping) (page : Option (List ℕ)) → page_of o to.pfn ≡ page → r_step o at n (Some to) ≡ None → page ≡ None
-read_none o at n to None is e = refl
-read_none o at n to (Some page) is e = let z : by (Some page) ≡ None = sym (ap by is) ∙ e in absurd (cc) where
-  by : Option (List ℕ) → LocalResult
-  by None = None
-  by (Some bytes) = Some (Ok (o, reply.Bytes (take n (drop at bytes))))
-
-exposed_not : (b : Bool) → false ≡ not b → b ≡ true
-exposed_not true e = refl
-exposed_not false e = absurd (cc)
-
--- a read that has to be asked is one of an exposed page
-pub asked_meets : (s : Script) (p : ℕ) (o : Own) (c : Command) (pages : List Exposed) (id : ℕ) → ((v : ℕ) (to : Mapping) → fm.get o.vmap v ≡ Some to → page_of o to.pfn ≡ None → is_exposed pages id to.pfn ≡ true)
-    → (free : ℕ) → local_step s p o (told_of free c) c ≡ None → MayBeAsked pages id (lent o c).met c
-asked_meets s p o (command.R addr len) pages id shown free e = by (mapping_at o addr) refl (unsettled o (r_step o (addr % 4096) len (mapping_at o addr)) e) where
-  by : (m : Option Mapping) → mapping_at o addr ≡ m → r_step o (addr % 4096) len m ≡ None → MeetsExposed pages id m
-  by None at k = absurd (cc)
-  by (Some to) at k = shown (addr / 4096) to at (read_none o (addr % 4096) len to (page_of o to.pfn) refl k)
-asked_meets s p o _ pages id shown free e = tt
-
--- what is lent to a command that is no clone is what its address maps to
-pub lent_met : (o : Own) (c : Command) → c ≢ command.Clone → (m : Option Mapping) → (lent o c).met ≡ m → lent o c ≡ record nothing_lent { met = m }
-lent_met o (command.W addr bytes) far m e = ap (λ (v : Option Mapping). record nothing_lent { met = v }) e
-lent_met o (command.R addr len) far m e = ap (λ (v : Option Mapping). record nothing_lent { met = v }) e
-lent_met o command.Clone far m e = absurd (far refl)
-lent_met o _ far m e = ap (λ (v : Option Mapping). record nothing_lent { met = v }) e
-
--- a page that a live domain maps and that isn't its own is exposed
-pub shown_is : (s : Script) (st : State) → IsReached s st → (id : ℕ) → is_some (part_at st id).life ≡ true → (v : ℕ) (to : Mapping) → fm.get (part_at st id).own.vmap v ≡ Some to → page_of (part_at st id).own to.pfn ≡ None → is_exposed st.machine.shared.pages id to.pfn ≡ true
-shown_is s st reached id live v to at none =
-    let h = (live_sound s st reached id live).halves in
-    let lt = at_some (fm.get (part_at st id).own.vmap v) (λ (x : Mapping). x.pfn < length (part_at st id).own.pages) to at (h.maps v) in
-    exposed_not _ (sym (ap is_some none) ∙ h.apart to.pfn lt)

@@ -12,7 +12,6 @@ use Rattle.neph_base.specs.declared.reply.Reply.{Reply}
 use Rattle.neph_base.specs.declared.reply.Reply.TheVariants as reply
 use Rattle.neph_model.specs.declared.own.Own.{Own}
 use Rattle.neph_model.specs.declared.told.Told.TheVariants.{Enough}
-use Rattle.std.proofs.lemmas.List.{get_or-set_same}
 use Rattle.neph_model.specs.Programs.{command_at}
 use Rattle.neph_model.specs.Machine.{program_of, program_run}
 use Rattle.neph_model.specs.Own.{mapping_at, local_step}
@@ -27,14 +26,13 @@ use Rattle.neph_memory.specs.declared.dom_local.DomLocal.{DomLocal}
 use Rattle.neph_memory.specs.Pages.{frame_at}
 use Rattle.neph_memory.specs.Domains.{IsStanding, IsSharedPage, KeepsPlaces, TookSpare}
 use Rattle.neph_guest.specs.declared.live.Live.{Live}
-use Rattle.neph_guest.specs.declared.live.Guest.{Guest}
 use Rattle.neph_guest.specs.declared.live.Stage.TheVariants as guest
 use Rattle.neph_guest.specs.OwnHalf.{IsOwnHalf}
 use Rattle.neph_guest.specs.Turns.{IsWriteInHand, HasWritten, WaitsForFrame}
 use Rattle.neph_accounts.specs.Places.{Place as Held, seat_of}
 use Rattle.neph_accounts.specs.Accounts.{places}
 use Rattle.neph_accounts.proofs.Ids.{domain_place}
-use Rattle.neph_machine.specs.declared.place.Place.TheVariants.{Empty, Domain}
+use Rattle.neph_machine.specs.declared.place.Place.TheVariants.{Domain}
 use Rattle.neph_machine.specs.declared.machine.Machine.{Machine}
 use Rattle.neph_machine.specs.declared.turn.Turn.{Turn}
 use Rattle.neph_machine.specs.declared.turn.Turn.TheVariants.{Noted as Entered}
@@ -43,7 +41,7 @@ use Rattle.neph_machine.specs.Surveyed.{IsSurveyed}
 use Rattle.neph_machine.specs.StandsFor.{command_of, StandsFor}
 use Rattle.neph_machine.specs.Turned.{Took}
 use Rattle.neph_machine.specs.Stages.{IsRunnable}
-use Rattle.neph_lines.specs.Lines.{NeedsFrame, HasNoSpare, bare_move}
+use Rattle.neph_lines.proofs.Lines.{NeedsFrame, bare_move}
 use Rattle.neph_machine.proofs.Reached.{IsReached, line_short}
 use Rattle.neph_machine.proofs.Accounts.{seated, heap_place, accounts, accounts_long, account_is, domain_in}
 use Rattle.neph_machine.proofs.Seated.{are_surveyed}
@@ -177,13 +175,8 @@ module _ {Pool Seat : Type 0} (W : World Pool Seat) (old : Machine Pool Seat) (s
     pub waits_stands : (mid : Machine Pool Seat) → mid.script ≡ old.script → mid.hv ≡ old.hv → (k : Live Pool Seat) → mid.places.items ≡ set old.places.items id (Domain k) → Moves W old.pool l.local.seat mid.pool k.local.seat → IsStanding W mid.pool k.local → k.guest ≡ l.guest → IfSome l.local.hand (λ h. WaitsForFrame W old.pool l.local mid.pool k.local h.pfn) → StandsFor W mid st
     waits_stands mid script hv k spots moves standing same place = let wait = waits_at mid.pool k.local place in stands_still W old st reached stands id l here mid script hv k spots moves standing wait.same same quiet
 
-    pub waits_bare : (mid : Machine Pool Seat) (k : Live Pool Seat) → mid.places.items ≡ set old.places.items id (Domain k) → k.guest ≡ l.guest → IfSome l.local.hand (λ h. WaitsForFrame W old.pool l.local mid.pool k.local h.pfn) → HasNoSpare mid id
-    waits_bare mid k spots same place = let wait = waits_at mid.pool k.local place in record {
-      live = k;
-      here = ap (place_at id) spots ∙ get_or-set_same old.places.items id (Domain k) Empty (let n = stands.places in let lt = within W old st reached stands id l here in omega arith);
-      none = ap (λ o. o.spare) wait.same.own ∙ wait.spare;
-      at = λ e. let z = sym (ap (λ (g : Guest). g.stage) same ∙ at) ∙ e in cc;
-    }
+    pub waits_bare : (q : _) (k : Live Pool Seat) → IfSome l.local.hand (λ h. WaitsForFrame W old.pool l.local q k.local h.pfn) → k.local.own.spare ≡ None
+    waits_bare q k place = let wait = waits_at q k.local place in ap (λ o. o.spare) wait.same.own ∙ wait.spare
 
     pub waits_took : (mid new : Machine Pool Seat) (k : Live Pool Seat) (t : Turn) → mid.script ≡ old.script → W.shares mid.pool ≡ W.shares old.pool → IfSome l.local.hand (λ h. WaitsForFrame W old.pool l.local mid.pool k.local h.pfn)
         → Took W mid new (move_turn old.script st id (bare_move (free old.script st))) t → Took W old new (turn old.script st (actor.Dom id)) t

@@ -43,7 +43,7 @@ use Rattle.neph_machine.specs.Places.{place_at}
 use Rattle.neph_machine.specs.Surveyed.{IsSurveyed}
 use Rattle.neph_machine.specs.StandsFor.{command_of, IsAtStage, StandsFor}
 use Rattle.neph_machine.specs.Stages.{IsRunnable}
-use Rattle.neph_lines.specs.Lines.{NeedsFrame, bare_move}
+use Rattle.neph_lines.proofs.Lines.{NeedsFrame, bare_move}
 use Rattle.neph_machine.proofs.Reached.{IsReached, live_sound}
 use Rattle.neph_machine.proofs.FrameLaws.{shared_is}
 use Rattle.neph_lines.proofs.LineTurns.{to_copy, w_short, copying_is}

@@ -1,3 +1,5 @@
+pub mod Lines
+pub mod Tries
 pub mod LineTurns
 pub mod Sparing
 pub mod NoFrame

@@ -34,7 +34,7 @@ use Rattle.neph_machine.specs.declared.machine.Machine.{Machine}
 use Rattle.neph_machine.specs.Places.{place_at}
 use Rattle.neph_machine.specs.StandsFor.{command_of, StandsFor}
 use Rattle.neph_machine.proofs.Reached.{IsReached}
-use Rattle.neph_lines.specs.Lines.{NeedsFrame, bare_move}
+use Rattle.neph_lines.proofs.Lines.{NeedsFrame, bare_move}
 use Rattle.neph_lines.proofs.Sparing.{was}
 use Rattle.neph_lines.proofs.InHand.{same_reply}
 

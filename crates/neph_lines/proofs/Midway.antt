@@ -1,25 +1,21 @@
 -- A domain that has tried its line by itself: what the turn does then.
-use Rattle.std.proofs.Common.{◌≡◌, ◌≢◌, ℕ, false, List, None, refl, sym, ap, subst, ◌∙◌, arith}
+use Rattle.std.proofs.Common.{◌≡◌, ◌≢◌, ℕ, false, None, refl, sym, ap, subst, ◌∙◌, arith}
 use Rattle.std.specs.Prelude.{is_some}
 use Rattle.std.specs.declared.option.Option.{Option}
 use Rattle.std.proofs.lemmas.List.{get_or-set_same}
 use Rattle.neph_base.specs.declared.command.Command.{Command}
 use Rattle.neph_base.specs.declared.command.Command.TheVariants as command
 use Rattle.neph_base.specs.declared.reply.Actor.TheVariants as actor
-use Rattle.neph_base.specs.declared.reply.Actor.{Actor}
 use Rattle.neph_base.specs.declared.reply.Entry.TheVariants.{Line}
 use Rattle.neph_base.specs.declared.reply.Reply.{Reply}
 use Rattle.neph_model.specs.declared.own.Own.{Own}
-use Rattle.neph_model.specs.declared.script.Script.{Script}
-use Rattle.neph_model.specs.declared.book.Spends.TheVariants.{Nothing}
 use Rattle.neph_model.specs.declared.told.Told.TheVariants.{Enough}
 use Rattle.neph_model.specs.Machine.{program_of, program_run}
 use Rattle.neph_model.specs.Programs.{command_at}
 use Rattle.neph_model.specs.Own.{local_step}
-use Rattle.neph_model.specs.WellFormed.{IsWellFormed}
 use Rattle.neph_model.specs.Step.{is_paused}
 use Rattle.neph_model.specs.Books.{State, free}
-use Rattle.neph_model.specs.Turns.{ready_move, line_turn, move_turn, turn}
+use Rattle.neph_model.specs.Turns.{ready_move, move_turn, turn}
 use Rattle.neph_runs.specs.Orderly.{seat as part_at}
 use Rattle.neph_pool.specs.World.{World}
 use Rattle.neph_guest.specs.declared.live.Live.{Live}
@@ -33,22 +29,20 @@ use Rattle.neph_machine.specs.declared.place.Place.TheVariants.{Empty, Domain}
 use Rattle.neph_machine.specs.declared.machine.Machine.{Machine}
 use Rattle.neph_machine.specs.declared.turn.Turn.{Turn}
 use Rattle.neph_machine.specs.declared.turn.Turn.TheVariants.{Moved, Noted as Entered}
-use Rattle.neph_machine.specs.Reached.{state_after}
 use Rattle.neph_machine.specs.Surveyed.{IsSurveyed}
 use Rattle.neph_machine.specs.Places.{place_at}
 use Rattle.neph_machine.specs.Stages.{IsReadyAt}
 use Rattle.neph_machine.specs.StandsFor.{command_of, StandsFor}
 use Rattle.neph_machine.specs.Turned.{Took}
-use Rattle.neph_machine.proofs.Reached.{IsReached, reached}
-use Rattle.neph_lines.specs.Tries.{HasTried}
-use Rattle.neph_lines.specs.Lines.{HasNoSpare, NeedsFrame, IsAsked, bare_move, told_of}
+use Rattle.neph_machine.proofs.Reached.{IsReached}
+use Rattle.neph_lines.proofs.Tries.{HasTried}
+use Rattle.neph_lines.proofs.Lines.{NeedsFrame, bare_move}
 use Rattle.neph_machine.proofs.Carrying.{same_live}
 use Rattle.neph_lines.proofs.Sparing.{was, within}
 use Rattle.neph_lines.proofs.CopyTurns.{took_from}
 use Rattle.neph_lines.proofs.ReadyLines.{Tried, at_line, its, no_hand, program_found, turn_is, stands_same, took_copies}
 use Rattle.neph_lines.proofs.Doing.{took_did}
 use Rattle.neph_lines.proofs.Mapping.{lacks_map, map_needs, map_bare}
-use Rattle.neph_lines.proofs.Asking.{asked_move, asked_told}
 
 -- the turn has done nothing yet: it lacks a frame, or has to ask
 abbrev pub IsMidway : LocalTurn → Type 0
@@ -63,9 +57,6 @@ pub record Trial {Pool Seat : Type 0} (W : World Pool Seat) (old mid : Machine P
   pub stands : StandsFor W old st
   pub ready : IsReadyAt old id c
   pub did : HasTried W old mid id line c t
-
-pub trial : {Pool Seat : Type 0} (W : World Pool Seat) (old mid : Machine Pool Seat) (id line : ℕ) (c : Command) (t u : LocalTurn) → IsWellFormed old.script → IsReadyAt old id c → HasTried W old mid id line c u → u ≡ t → (before : List Actor) → StandsFor W old (state_after old.script before) → Trial W old mid (state_after old.script before) id line c t
-trial W old mid id line c t u formed ready did e before stands = record { reached = reached old.script formed before; stands = stands; ready = ready; did = subst (HasTried W old mid id line c) e did }
 
 module _ {Pool Seat : Type 0} {W : World Pool Seat} {old mid : Machine Pool Seat} {st : State} {id line : ℕ} {c : Command} {t : LocalTurn} (x : Trial W old mid st id line c t) where
   -- by the definitions
@@ -106,11 +97,16 @@ module _ {Pool Seat : Type 0} {W : World Pool Seat} {old mid : Machine Pool Seat
   left : Left W mid.pool x.did.live x.did.left (part_at st id).own
   left = left_by W old.pool mid.pool x.did.live x.did.left (part_at st id).own c _ t midway (tried x)
 
-  mid_stands : StandsFor W mid st
+  pub mid_stands : StandsFor W mid st
   mid_stands = let d = x.did in stands_same W old st x.reached x.stands id d.live d.turned.here c x.ready mid d.turned.script d.turned.hv d.left d.turned.places d.turned.moves d.dom d.id_is d.turned.stands left.half d.pages left.spare (left.stage ∙ at_ready) (left.hand ∙ no_hand W old st x.reached x.stands id d.live d.turned.here c x.ready)
 
-  there : place_at id mid.places.items ≡ Domain x.did.left
+  -- the domain is there still
+  pub there : place_at id mid.places.items ≡ Domain x.did.left
   there = ap (place_at id) x.did.turned.places ∙ get_or-set_same old.places.items id (Domain x.did.left) Empty (let n = x.stands.places in let lt = within W old st x.reached x.stands id x.did.live x.did.turned.here in omega arith)
+
+  -- it is at its line still
+  pub line_same : x.did.left.guest.line ≡ x.did.live.guest.line
+  line_same = let is = was W old st x.reached x.stands id x.did.live x.did.turned.here in sym left.half.line ∙ is.own.line
 
   pub mid_ready : IsReadyAt mid id c
   mid_ready =
@@ -137,16 +133,8 @@ copies_took {Pool} {Seat} {W} {old} {mid} {st} {id} {line} {c} x survey = let d 
 
 -- it has to be asked of the hypervisor
 module _ {Pool Seat : Type 0} {W : World Pool Seat} {old mid : Machine Pool Seat} {st : State} {id line : ℕ} {c : Command} (x : Trial W old mid st id line c local.Asks) where
-  alone : local_step old.script (program_of (part_at st id).life) (part_at st id).own Enough c ≡ None
+  pub alone : local_step old.script (program_of (part_at st id).life) (part_at st id).own Enough c ≡ None
   alone = (tried x).turn.0
-
-  mid_asked : IsAsked old.script st id c
-  mid_asked = record { alone = asked_told old.script (program_of (part_at st id).life) (free old.script st) (part_at st id).own c alone }
-
-  asked_took : c ≢ command.Clone → (new : Machine Pool Seat) (t : Turn) → Took W mid new (line_turn old.script st id (told_of (free old.script st) c) Nothing) t → Took W old new (turn old.script st (actor.Dom id)) t
-  asked_took far new t took =
-      subst (λ d. Took W old new d t) (sym (turn_is W old st x.reached x.stands id x.did.live x.did.turned.here c x.ready ∙ ap (move_turn old.script st id) (asked_move old.script (program_of (part_at st id).life) (free old.script st) st.books (part_at st id).own (part_at st id).book c far alone)))
-      (took_from W old mid new (line_turn old.script st id (told_of (free old.script st) c) Nothing) t x.did.turned.script x.did.turned.shares took)
 
 -- it is a `map` that needs a leaf table, for which no spare is held
 module _ {Pool Seat : Type 0} {W : World Pool Seat} {old mid : Machine Pool Seat} {st : State} {id line : ℕ} {c : Command} (x : Trial W old mid st id line c local.LacksFrame) where
@@ -156,18 +144,10 @@ module _ {Pool Seat : Type 0} {W : World Pool Seat} {old mid : Machine Pool Seat
   is_its : command_of old.script (part_at st id) ≡ c
   is_its = its W old st x.reached x.stands id x.did.live x.did.turned.here c x.ready
 
-  mid_needs : NeedsFrame old.script st id
+  pub mid_needs : NeedsFrame old.script st id
   mid_needs = let m = lacks_map (part_at st id).own c lacks in map_needs W old st x.reached x.stands id x.did.live x.did.turned.here m.0 m.1 m.2 (is_its ∙ m.3) m.4 m.5
 
-  pub mid_bare : HasNoSpare mid id
-  mid_bare = record {
-    live = x.did.left;
-    here = there x tt;
-    none = (left x tt).spare ∙ x.did.lacks;
-    at = λ e. let z = sym (x.did.stage ∙ at_ready x tt) ∙ e in cc;
-  }
-
-  spare_took : (new : Machine Pool Seat) (t : Turn) → Took W mid new (move_turn old.script st id (bare_move (free old.script st))) t → Took W old new (turn old.script st (actor.Dom id)) t
+  pub spare_took : (new : Machine Pool Seat) (t : Turn) → Took W mid new (move_turn old.script st id (bare_move (free old.script st))) t → Took W old new (turn old.script st (actor.Dom id)) t
   spare_took new t took =
       let is = was W old st x.reached x.stands id x.did.live x.did.turned.here in
       let m = lacks_map (part_at st id).own c lacks in
@@ -175,20 +155,3 @@ module _ {Pool Seat : Type 0} {W : World Pool Seat} {old mid : Machine Pool Seat
       let move = ap (ready_move (free old.script st) st.books (part_at st id).own (part_at st id).book) m.3 ∙ map_bare W old st x.reached x.stands id x.did.live x.did.turned.here m.0 m.1 m.2 (is_its ∙ m.3) m.4 m.5 no in
       subst (λ d. Took W old new d t) (sym (turn_is W old st x.reached x.stands id x.did.live x.did.turned.here c x.ready ∙ ap (move_turn old.script st id) move))
       (took_from W old mid new (move_turn old.script st id (bare_move (free old.script st))) t x.did.turned.script x.did.turned.shares took)
-
--- what the calls behind it require, and what they have done, by the script of the machine midway
-module _ {Pool Seat : Type 0} {W : World Pool Seat} {old mid : Machine Pool Seat} (before : List Actor) {id line : ℕ} {c : Command} (x : Trial W old mid (state_after old.script before) id line c local.Asks) where
-  pub asked_mid : StandsFor W mid (state_after mid.script before) × IsAsked mid.script (state_after mid.script before) id c
-  asked_mid = subst (λ (s : Script). StandsFor W mid (state_after s before) × IsAsked s (state_after s before) id c) (sym x.did.turned.script) (mid_stands x tt, mid_asked x)
-
-  pub asked_done : c ≢ command.Clone → (new : Machine Pool Seat) (t : Turn) → (StandsFor W mid (state_after mid.script before) → IsAsked mid.script (state_after mid.script before) id c → Took W mid new (line_turn mid.script (state_after mid.script before) id (told_of (free mid.script (state_after mid.script before)) c) Nothing) t)
-      → Took W old new (turn old.script (state_after old.script before) (actor.Dom id)) t
-  asked_done far new t did = asked_took x far new t (subst (λ (s : Script). Took W mid new (line_turn s (state_after s before) id (told_of (free s (state_after s before)) c) Nothing) t) x.did.turned.script (did asked_mid.0 asked_mid.1))
-
-module _ {Pool Seat : Type 0} {W : World Pool Seat} {old mid : Machine Pool Seat} (before : List Actor) {id line : ℕ} {c : Command} (x : Trial W old mid (state_after old.script before) id line c local.LacksFrame) where
-  pub bare_mid : StandsFor W mid (state_after mid.script before) × NeedsFrame mid.script (state_after mid.script before) id
-  bare_mid = subst (λ (s : Script). StandsFor W mid (state_after s before) × NeedsFrame s (state_after s before) id) (sym x.did.turned.script) (mid_stands x tt, mid_needs x)
-
-  pub spare_done : (new : Machine Pool Seat) (t : Turn) → (StandsFor W mid (state_after mid.script before) → NeedsFrame mid.script (state_after mid.script before) id → Took W mid new (move_turn mid.script (state_after mid.script before) id (bare_move (free mid.script (state_after mid.script before)))) t)
-      → Took W old new (turn old.script (state_after old.script before) (actor.Dom id)) t
-  spare_done new t did = spare_took x new t (subst (λ (s : Script). Took W mid new (move_turn s (state_after s before) id (bare_move (free s (state_after s before)))) t) x.did.turned.script (did bare_mid.0 bare_mid.1))

@@ -33,7 +33,7 @@ use Rattle.neph_machine.specs.declared.turn.Turn.TheVariants.{Moved, Noted as En
 use Rattle.neph_machine.specs.Places.{place_at}
 use Rattle.neph_machine.specs.StandsFor.{command_of, StandsFor}
 use Rattle.neph_machine.specs.Turned.{Took}
-use Rattle.neph_lines.specs.Lines.{NeedsFrame, bare_move}
+use Rattle.neph_lines.proofs.Lines.{NeedsFrame, bare_move}
 use Rattle.neph_machine.proofs.Reached.{IsReached}
 use Rattle.neph_machine.proofs.OnePlace.{OneDomain}
 use Rattle.neph_lines.proofs.Sparing.{IsOffered, spares_swap, half_kept, was, within, stage_kept, stands_quietly, stands_line_alone}

@@ -2,3 +2,13 @@ pub mod Resting
 pub mod Work
 pub mod Tabling
 pub mod Counted
+pub mod CloneLines
+pub mod AtClone
+pub mod Begun
+pub mod Refusing
+pub mod Beginning
+pub mod TookBy
+pub mod Needs
+pub mod SpareTurns
+pub mod TrapTurns
+pub mod GuestTurns

@@ -1,5 +1,5 @@
 -- What the definitions do in the turn of a domain that rests.
-use Rattle.std.proofs.Common.{◌≡◌, ◌≢◌, ℕ, Bool, true, false, cond, [], Some, None, refl, sym, ap, subst, ◌∙◌}
+use Rattle.std.proofs.Common.{◌≡◌, ◌≢◌, ℕ, Bool, true, false, cond, Some, None, refl, ap, subst, ◌∙◌}
 use Rattle.std.specs.Prelude.{is_some}
 use Rattle.neph_base.specs.declared.reply.Actor.TheVariants.{Dom}
 use Rattle.neph_model.specs.declared.book.Stage.{Stage as Ahead}
@@ -19,48 +19,21 @@ use Rattle.neph_machine.specs.declared.place.Place.{Place}
 use Rattle.neph_machine.specs.declared.place.Place.TheVariants.{Empty, Flight as InFlight, Domain}
 use Rattle.neph_machine.specs.declared.machine.Machine.{Machine}
 use Rattle.neph_machine.specs.Places.{place_at}
-use Rattle.neph_rows.specs.Records.{shared_of}
-use Rattle.neph_machine.specs.Stages.{IsAt, IsRunnable}
+use Rattle.neph_machine.specs.Stages.{IsAt}
 use Rattle.neph_machine.specs.StandsFor.{command_of, IsAtStage, IsDomain, IsPlace, StandsFor}
-use Rattle.neph_turns.specs.Going.{unless_paused, going_in, stage_going}
+use Rattle.neph_turns.specs.Standing.{stage_in}
 
 some_is : {x y : Stage} → Some x ≡ Some y → x ≡ y
 some_is e = cc
 
--- a domain that was found to go on is at that stage, and isn't paused if it has begun no clone
-pub record Goes {Pool Seat : Type 0} (m : Machine Pool Seat) (id : ℕ) (stage : Stage) : Type 0 where
-  pub at : IsAt m id stage
-  pub runs : stage ≢ guest.Forking → IsRunnable m id
-
+-- a domain that was found stands there
 pub found : {Pool Seat : Type 0} (m : Machine Pool Seat) (id : ℕ) (stage : Stage)
-    → stage_going m id ≡ Some stage → Goes m id stage
+    → stage_in (place_at id m.places.items) ≡ Some stage → IsAt m id stage
 found {Pool} {Seat} m id stage e = by (place_at id m.places.items) refl e where
-  went : (paused : Bool) (s : Stage) → unless_paused paused s ≡ Some stage
-      → (s ≡ stage) × (stage ≢ guest.Forking → paused ≡ false)
-  went paused guest.Forking h = (some_is h, λ far. absurd (far (sym (some_is h))))
-  went true guest.Copying h = absurd cc
-  went true guest.Ready h = absurd cc
-  went false guest.Copying h = (some_is h, λ far. refl)
-  went false guest.Ready h = (some_is h, λ far. refl)
-
-  by : (place : Place Pool Seat) → place_at id m.places.items ≡ place
-      → going_in (is_paused id (shared_of m.hv.registry [])) place ≡ Some stage → Goes m id stage
+  by : (place : Place Pool Seat) → place_at id m.places.items ≡ place → stage_in place ≡ Some stage → IsAt m id stage
   by Empty here h = absurd cc
   by (InFlight f) here h = absurd cc
-  by (Domain l) here h =
-      let w = went (is_paused id (shared_of m.hv.registry [])) l.guest.stage h in
-      record { at = record { live = l; here = here; at = w.0 }; runs = λ far pages. w.1 far }
-
--- a domain that has begun no clone goes on where it isn't paused
-pub none_going : (paused : Bool) (s : Stage) → s ≢ guest.Forking → paused ≡ true → unless_paused paused s ≡ None
-none_going paused guest.Forking far e = absurd (far refl)
-none_going paused guest.Copying far e = ap (λ (b : Bool). unless_paused b guest.Copying) e
-none_going paused guest.Ready far e = ap (λ (b : Bool). unless_paused b guest.Ready) e
-
-pub some_going : (paused : Bool) (s : Stage) → s ≢ guest.Forking → paused ≡ false → unless_paused paused s ≡ Some s
-some_going paused guest.Forking far e = absurd (far refl)
-some_going paused guest.Copying far e = ap (λ (b : Bool). unless_paused b guest.Copying) e
-some_going paused guest.Ready far e = ap (λ (b : Bool). unless_paused b guest.Ready) e
+  by (Domain l) here h = record { live = l; here = here; at = some_is h }
 
 module _ {Pool Seat : Type 0} (W : World Pool Seat) (m : Machine Pool Seat) (st : State)
     (stands : StandsFor W m st) (id : ℕ) where
@@ -90,20 +63,10 @@ module _ {Pool Seat : Type 0} (W : World Pool Seat) (m : Machine Pool Seat) (st 
         by book.Copying s h = ap (move (is_paused id st.machine.shared)) s ∙ ap (λ (b : Bool). move b book.Copying) paused
         by (book.Forking left) s h = absurd (far h.0)
 
-  -- where no domain goes on the turn does nothing
-  pub none_goes : stage_going m id ≡ None → turn m.script st (Dom id) ≡ nothing st
-  none_goes e = by (place_at id m.places.items) refl (stands.each id) e where
-    stays : (paused : Bool) (s : Stage) → unless_paused paused s ≡ None → (s ≢ guest.Forking) × (paused ≡ true)
-    stays paused guest.Forking h = absurd cc
-    stays true guest.Copying h = (λ e. cc, refl)
-    stays true guest.Ready h = (λ e. cc, refl)
-    stays false guest.Copying h = absurd cc
-    stays false guest.Ready h = absurd cc
-
-    by : (place : Place Pool Seat) → place_at id m.places.items ≡ place → IsPlace W m id place (part_at st)
-        → going_in (is_paused id (shared_of m.hv.registry [])) place ≡ None → turn m.script st (Dom id) ≡ nothing st
-    by Empty here h e = still h.0.live
-    by (InFlight f) here h e = still h.0.live
-    by (Domain l) here h e =
-        let s = stays (is_paused id (shared_of m.hv.registry [])) l.guest.stage e in
-        paused_rests l here s.0 (ap (is_paused id) stands.shared ∙ s.1)
+  -- where no domain stands the turn does nothing
+  pub none_stands : stage_in (place_at id m.places.items) ≡ None → turn m.script st (Dom id) ≡ nothing st
+  none_stands e = by (place_at id m.places.items) (stands.each id) e where
+    by : (place : Place Pool Seat) → IsPlace W m id place (part_at st) → stage_in place ≡ None → turn m.script st (Dom id) ≡ nothing st
+    by Empty h e = still h.0.live
+    by (InFlight f) h e = still h.0.live
+    by (Domain l) h e = absurd cc

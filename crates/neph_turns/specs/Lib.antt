@@ -1,2 +1,2 @@
-pub mod Going
+pub mod Standing
 pub mod Seats
