@@ -1,13 +1,11 @@
--- Texts of commands, one behind another.
-use Rattle.std.proofs.Common.{◌≡◌, ℕ, ◌+◌, ◌-◌, ◌<◌, ◌≤◌, List, [], ◌++◌, length, take, drop, set, ap, ◌∙◌, arith}
+-- Texts of lines, one behind another.
+use Rattle.std.proofs.Common.{◌≡◌, ℕ, ◌-◌, List, ◌++◌, length, take, drop, set, ap, ◌∙◌, arith}
 use Rattle.std.specs.Prelude.{All}
 use Rattle.std.proofs.lemmas.List.{take-append-le, drop-append-le, take_all, drop_all, length-append, length-drop}
 use Rattle.std.proofs.lemmas.List.Elements.{All-set, All-weaker}
 use Rattle.neph_model.specs.declared.script.Script.{Script}
-use Rattle.neph_model.specs.Programs.{program_at}
-use Rattle.neph_model.specs.Transcript.{command_text}
 use Rattle.neph_print.specs.declared.texts.TextPlace.{TextPlace}
-use Rattle.neph_print.specs.Texts.{StandsAt}
+use Rattle.neph_print.specs.Texts.{StandsAt, line_text}
 
 -- nothing stands nowhere
 pub nowhere : (s : Script) (text : List ℕ) (program line : ℕ) → StandsAt s text (record { program = program; line = line; start = 0; end = 0 })
@@ -28,17 +26,17 @@ behind text words =
     ap (take (length (text ++ words) - length text)) (drop-append-le (length text) text words (omega arith) ∙ ap (λ (front : List ℕ). front ++ words) (drop_all (length text) text (omega arith)))
     ∙ take_all _ words (omega (arith, length-append text words))
 
-latest : (s : Script) (text new : List ℕ) (p : TextPlace) → new ≡ text ++ command_text (program_at s p.program) p.line → p.start ≡ length text → p.end ≡ length new → StandsAt s new p
+latest : (s : Script) (text new : List ℕ) (p : TextPlace) → new ≡ text ++ line_text s p.program p.line → p.start ≡ length text → p.end ≡ length new → StandsAt s new p
 latest s text new p is from to =
     record {
-      ordered = omega (arith, from, to, ap length is, length-append text (command_text (program_at s p.program) p.line));
+      ordered = omega (arith, from, to, ap length is, length-append text (line_text s p.program p.line));
       within = omega (arith, to);
-      shown = λ some. rw (from, to, is) (behind text (command_text (program_at s p.program) p.line));
+      shown = λ some. rw (from, to, is) (behind text (line_text s p.program p.line));
     }
 
--- a command's text behind the others has its place
-pub one_more : (s : Script) (text new : List ℕ) (places : List TextPlace) (at : ℕ) (p : TextPlace) → new ≡ text ++ command_text (program_at s p.program) p.line → p.start ≡ length text → p.end ≡ length new
+-- a line's text behind the others has its place
+pub one_more : (s : Script) (text new : List ℕ) (places : List TextPlace) (at : ℕ) (p : TextPlace) → new ≡ text ++ line_text s p.program p.line → p.start ≡ length text → p.end ≡ length new
     → All (StandsAt s text) places → All (StandsAt s new) (set places at p)
 one_more s text new places at p is from to all =
-    let longer : (q : TextPlace) → StandsAt s text q → StandsAt s new q = λ q so. rw is (grown s text (command_text (program_at s p.program) p.line) q so) in
+    let longer : (q : TextPlace) → StandsAt s text q → StandsAt s new q = λ q so. rw is (grown s text (line_text s p.program p.line) q so) in
     All-set (StandsAt s new) places at p (latest s text new p is from to) (All-weaker (StandsAt s text) (StandsAt s new) longer places all)

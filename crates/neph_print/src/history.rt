@@ -4,7 +4,7 @@ ghost use Rattle.neph_model.specs.Step.{actor, child_made};
 ghost use Rattle.neph_model.specs.Transcript.{families_after, history_text, start_families};
 
 use crate::entry::put_entry_line;
-use crate::texts::CommandTexts;
+use crate::texts::LineTexts;
 use neph_base::{Entry, NoMemory, Noted, Reply};
 use neph_model::Script;
 use std::alloc::Global;
@@ -20,11 +20,12 @@ pub fn put_history(
         ++ history_text s.now start_families history.now) }
 {
     let mut families = start_families();
-    let mut texts = CommandTexts::none(alloc);
+    let mut texts = LineTexts::none(alloc);
     for noted in history {
-        let family = families[actor_of(noted.entry)];
-        put_entry_line(text, &mut texts, s, family, noted.entry, noted.reply)?;
-        note_child(&mut families, noted.entry, noted.reply);
+        let Noted { entry, reply } = noted;
+        let family = families[actor_of(*entry)];
+        put_entry_line(text, &mut texts, s, family, entry, reply)?;
+        note_child(&mut families, entry, reply);
     }
     Ok(())
 }
@@ -52,9 +53,9 @@ fn actor_of(entry: Entry) -> usize
 }
 
 // The child that a commit makes has the family of its parent.
-fn note_child(families: &mut [u8; 64], entry: Entry, reply: Reply)
-    ensures after { families.new ≡ families_after families.old (actor entry)
-        (child_made entry reply) }
+fn note_child(families: &mut [u8; 64], entry: &Entry, reply: &Reply)
+    ensures after { families.new ≡ families_after families.old (actor entry.now)
+        (child_made entry.now reply.now) }
 {
     let Entry::Commit { dom, .. } = entry else {
         return;

@@ -1,15 +1,16 @@
-// The texts of commands, kept so that a command that many domains do is put together once.
+// The texts of lines, kept so that a command that many domains do is put together once.
 ghost use Rattle.std.specs.Prelude.{◌≡◌, ◌++◌, ◌-◌, OnOk, slice_get};
 ghost use Rattle.neph_model.specs.declared.script.Script.{Script};
-ghost use Rattle.neph_model.specs.Transcript.{command_text, family_program, program_started};
+ghost use Rattle.neph_model.specs.Transcript.{program_started};
+ghost use Rattle.neph_print.specs.Texts.{line_text};
 
 use crate::command::put_program_command;
 use neph_base::NoMemory;
-use neph_command::put_word;
+use neph_command::{put_labelled, put_word};
 use neph_model::Script;
 use std::alloc::Global;
 
-/// Where the text of a program's command stands; nowhere where it ends at 0.
+/// Where the text of a program's line stands; nowhere where it ends at 0.
 #[derive(Clone, Copy)]
 pub struct TextPlace {
     pub program: u8,
@@ -18,15 +19,15 @@ pub struct TextPlace {
     pub end: usize,
 }
 
-/// Texts of commands, one behind another, and where the latest with each line's number stands:
-/// lines that are 512 apart share a place.
+/// Texts of lines, one behind another, and where the latest with each line's number stands: lines
+/// that are 512 apart share a place.
 #[derive(Drop)]
-pub struct CommandTexts {
+pub struct LineTexts {
     pub text: Vec<u8>,
     pub places: [TextPlace; 512],
 }
 
-impl CommandTexts {
+impl LineTexts {
     ghost use Rattle.neph_print.specs.Texts.{AreTexts};
 
     /// No text.
@@ -39,13 +40,13 @@ impl CommandTexts {
             start: 0,
             end: 0,
         };
-        CommandTexts {
+        LineTexts {
             text: Vec::new(alloc),
             places: [nowhere; 512],
         }
     }
 
-    /// Puts the command at a line of a family's program behind a text.
+    /// Puts the number and the command of a line of a family's program behind a text.
     pub fn put(
         &mut self,
         text: &mut Vec<u8>,
@@ -55,7 +56,7 @@ impl CommandTexts {
     ) -> Result<(), NoMemory>
         requires { AreTexts s.now self.old }
         ensures text { OnOk result (text.new.items ≡ text.old.items
-            ++ command_text (family_program s.now family) line) }
+            ++ line_text s.now (program_started (slice_get s.now.starts (family - 1))) line) }
         ensures texts { OnOk result (AreTexts s.now self.new) }
     {
         let program = program_of(s, family);
@@ -65,7 +66,7 @@ impl CommandTexts {
             return put_word(text, &self.text[place.start..place.end]);
         }
         let start = self.text.len();
-        put_program_command(&mut self.text, s, program, line)?;
+        put_line(&mut self.text, s, program, line)?;
         let end = self.text.len();
         put_word(text, &self.text[start..end])?;
         self.places[at] = TextPlace {
@@ -76,6 +77,16 @@ impl CommandTexts {
         };
         Ok(())
     }
+}
+
+// Puts the number and the command of a program's line.
+fn put_line(text: &mut Vec<u8>, s: &Script, program: u8, line: u16) -> Result<(), NoMemory>
+    ensures { OnOk result (text.new.items ≡ text.old.items ++ line_text s.now program line) }
+{
+    put_labelled(text, b":", u32::from(line))?;
+    put_word(text, b" ")?;
+    put_program_command(text, s, program, line)?;
+    put_word(text, b" = ")
 }
 
 // The number of a family's program.

@@ -1,8 +1,0 @@
-use Rattle.std.proofs.Common.{arith}
-use Rattle.neph_print.proofs.TextLemmas.{one_more}
-use Rattle.neph_print.proofs.texts.CommandTexts.put.Goals as goal
-
-pub returns-clause-texts : goal.returns-clause-texts
-returns-clause-texts c =
-    one_more c.args.s.now c.args.self.now.text.items _ _ _ _ c.in_ok-put_program_command.ensures
-    (omega (arith, c.len-start.ensures, c.args.self.now.text.ok.0)) (omega (arith, c.len-end.ensures, c.put_program_command.new.text.ok.0)) c.requires
