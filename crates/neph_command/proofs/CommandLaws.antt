@@ -19,7 +19,7 @@ use Rattle.neph_command.specs.declared.why.Why.TheVariants as why
 use Rattle.neph_command.specs.Words.{◌>>=◌, equals}
 use Rattle.neph_command.specs.Verbs.{verbs, keyword, kinds_of, verb_of, is_unbuilt}
 use Rattle.neph_command.specs.Kinds.{operands, operand_word, FitAll}
-use Rattle.neph_command.specs.Commands.{command_of, Parts, parts, parts_in, parts_of, words_of, said_words, verb_said, unless_within, extra_said, unless_wrong, checked, command_said, InRange, IsWrong, FaultBy, CommandFault}
+use Rattle.neph_command.specs.Commands.{command_of, Parts, parts, parts_in, parts_of, words_of, said_words, verb_said, unless_within, extra_said, unless_wrong, checked, said_alone, command_said, InRange, IsWrong, FaultBy, CommandFault}
 use Rattle.neph_command.proofs.Ranges.{equal_from}
 use Rattle.neph_command.proofs.Inverse.{bind_ok, let_in, let_on, same_ok, some_from_ok}
 use Rattle.neph_command.proofs.KindLaws.{have_kinds, kinds_fit, all_told, all_again, fit_length, first_fault}
@@ -70,6 +70,18 @@ made verb.Exit [] e = record { said = said.Whole command.Exit; is = refl; parts_
 made verb.Free [] e = record { said = said.Whole command.Free; is = refl; parts_are = refl }
 made verb.Clone [] e = record { said = said.Whole command.Clone; is = refl; parts_are = refl }
 made _ _ e = absurd cc
+
+-- words that are read one by one, and then as two together
+alone_then_extra : (v : Verb) (words : List (List ℕ)) → command_said v words ≡ cond (is_unbuilt v (length words)) (Err why.Unbuilt) (said_alone v words >>= λ s. unless_wrong (extra_said s) s)
+alone_then_extra v words = ap (λ (o : Result Said Why). cond (is_unbuilt v (length words)) (Err why.Unbuilt) o) (at (length words == length (kinds_of v)) (operands (kinds_of v) words)) where
+  at : (b : Bool) (r : Result (List Operand) Why) → cond b (r >>= λ xs. checked v xs) (Err why.Form) ≡ (cond b (r >>= λ xs. ok_or (command_of v xs) why.Form) (Err why.Form) >>= λ s. unless_wrong (extra_said s) s)
+  at true (Ok xs) = refl
+  at true (Err w) = refl
+  at false r = refl
+
+-- a command of words that are right alone and together
+pub alone_right : (v : Verb) (words : List (List ℕ)) (s : Said) → is_unbuilt v (length words) ≡ false → said_alone v words ≡ Ok s → extra_said s ≡ None → command_said v words ≡ Ok s
+alone_right v words s u a b = alone_then_extra v words ∙ rw (u, a, b) refl
 
 same_number : (a b : ℕ) → (a == b) ≡ true → a ≡ b
 same_number a b e = grind (arith, nat_tests)

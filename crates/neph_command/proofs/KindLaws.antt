@@ -2,8 +2,8 @@
 use Rattle.std.proofs.Common.{◌≡◌, ℕ, suc, ◌^◌, ◌<◌, ◌≤◌, Bool, true, false, List, [], ◌∷◌, length, map, Result, Ok, Err, inl, inr, refl, sym, ap, subst, ◌∙◌, arith}
 use Rattle.std.specs.Prelude.{if◌then◌else◌}
 use Rattle.std.specs.Fmt.{decimal}
-use Rattle.neph_command.specs.declared.operand.Kind.{Kind}
-use Rattle.neph_command.specs.declared.operand.Kind.TheVariants as kind
+use Rattle.neph_command.specs.Kind.{Kind}
+use Rattle.neph_command.specs.Kind.{Kind as kind}
 use Rattle.neph_command.specs.declared.operand.Operand.{Operand}
 use Rattle.neph_command.specs.declared.operand.Operand.TheVariants as op
 use Rattle.neph_command.specs.declared.why.Why.{Why}
@@ -27,37 +27,37 @@ number_told k low high to word x words fits e =
 
 -- one row for each kind: what was read is spelled so
 pub operand_told : (k : Kind) (word : List ℕ) (x : Operand) → operand k word ≡ Ok x → Told k word x
-operand_told kind.Addr word x e = number_told kind.Addr 0 1073741823 op.Addr word x (λ n. refl) (λ n a b. b) e
-operand_told kind.Len word x e = number_told kind.Len 1 64 op.Len word x (λ n. refl) (λ n a b. (a, b)) e
-operand_told kind.Bytes word x e = told kind.Bytes word op.Bytes (piece word) x e (λ bs h. let s = piece_read word bs h in record { is = s.is; fits = record { some = s.some; few = s.few; small = s.small } })
-operand_told kind.Vpn word x e = number_told kind.Vpn 0 262143 op.Vpn word x (λ n. refl) (λ n a b. b) e
-operand_told kind.Pfn word x e = number_told kind.Pfn 0 1023 op.Pfn word x (λ n. refl) (λ n a b. b) e
-operand_told kind.Mode word x e = told kind.Mode word op.Mode (mode word) x e (λ m h. record { is = mode_read word m h; fits = tt })
-operand_told kind.Label word x e = told kind.Label word op.Label (name word) x e (λ l h. let s = name_read word l h in record { is = s.0; fits = s.1 })
+operand_told kind.addr word x e = number_told kind.addr 0 1073741823 op.Addr word x (λ n. refl) (λ n a b. b) e
+operand_told kind.len word x e = number_told kind.len 1 64 op.Len word x (λ n. refl) (λ n a b. (a, b)) e
+operand_told kind.bytes word x e = told kind.bytes word op.Bytes (piece word) x e (λ bs h. let s = piece_read word bs h in record { is = s.is; fits = record { some = s.some; few = s.few; small = s.small } })
+operand_told kind.vpn word x e = number_told kind.vpn 0 262143 op.Vpn word x (λ n. refl) (λ n a b. b) e
+operand_told kind.pfn word x e = number_told kind.pfn 0 1023 op.Pfn word x (λ n. refl) (λ n a b. b) e
+operand_told kind.mode word x e = told kind.mode word op.Mode (mode word) x e (λ m h. record { is = mode_read word m h; fits = tt })
+operand_told kind.label word x e = told kind.label word op.Label (name word) x e (λ l h. let s = name_read word l h in record { is = s.0; fits = s.1 })
 
 numbered : (to : ℕ → Operand) (low high n : ℕ) → low ≤ n → n ≤ high → high < 2 ^ 64 → as_operand to (number low high (decimal n)) ≡ Ok (to n)
 numbered to low high n a b small = ap (as_operand to) (number_again low high n a b small)
 
 -- one row for each kind: what is spelled so is read
 pub operand_again : (k : Kind) (x : Operand) → Fits k x → operand k (operand_word x) ≡ Ok x
-operand_again kind.Addr (op.Addr n) h = numbered op.Addr 0 1073741823 n (omega arith) h (omega arith)
-operand_again kind.Len (op.Len n) h = numbered op.Len 1 64 n h.0 h.1 (omega arith)
-operand_again kind.Bytes (op.Bytes bytes) h = ap (as_operand op.Bytes) (piece_again bytes h.small h.some h.few)
-operand_again kind.Vpn (op.Vpn n) h = numbered op.Vpn 0 262143 n (omega arith) h (omega arith)
-operand_again kind.Pfn (op.Pfn n) h = numbered op.Pfn 0 1023 n (omega arith) h (omega arith)
-operand_again kind.Mode (op.Mode m) h = ap (as_operand op.Mode) (mode_again m)
-operand_again kind.Label (op.Label l) h = ap (as_operand op.Label) (name_again l h)
+operand_again kind.addr (op.Addr n) h = numbered op.Addr 0 1073741823 n (omega arith) h (omega arith)
+operand_again kind.len (op.Len n) h = numbered op.Len 1 64 n h.0 h.1 (omega arith)
+operand_again kind.bytes (op.Bytes bytes) h = ap (as_operand op.Bytes) (piece_again bytes h.small h.some h.few)
+operand_again kind.vpn (op.Vpn n) h = numbered op.Vpn 0 262143 n (omega arith) h (omega arith)
+operand_again kind.pfn (op.Pfn n) h = numbered op.Pfn 0 1023 n (omega arith) h (omega arith)
+operand_again kind.mode (op.Mode m) h = ap (as_operand op.Mode) (mode_again m)
+operand_again kind.label (op.Label l) h = ap (as_operand op.Label) (name_again l h)
 operand_again _ _ h = absurd h
 
 -- an operand of the sort that a kind asks for
 abbrev pub of_kind : Kind → Operand → Bool
-of_kind kind.Addr (op.Addr n) = true
-of_kind kind.Len (op.Len n) = true
-of_kind kind.Bytes (op.Bytes bytes) = true
-of_kind kind.Vpn (op.Vpn n) = true
-of_kind kind.Pfn (op.Pfn n) = true
-of_kind kind.Mode (op.Mode m) = true
-of_kind kind.Label (op.Label l) = true
+of_kind kind.addr (op.Addr n) = true
+of_kind kind.len (op.Len n) = true
+of_kind kind.bytes (op.Bytes bytes) = true
+of_kind kind.vpn (op.Vpn n) = true
+of_kind kind.pfn (op.Pfn n) = true
+of_kind kind.mode (op.Mode m) = true
+of_kind kind.label (op.Label l) = true
 of_kind _ _ = false
 
 abbrev pub have_kinds : List Kind → List Operand → Bool
@@ -67,13 +67,13 @@ have_kinds _ _ = false
 
 -- one row for each kind: an operand that fits is of its sort
 kind_fits : (k : Kind) (x : Operand) → Fits k x → of_kind k x ≡ true
-kind_fits kind.Addr (op.Addr n) h = refl
-kind_fits kind.Len (op.Len n) h = refl
-kind_fits kind.Bytes (op.Bytes bytes) h = refl
-kind_fits kind.Vpn (op.Vpn n) h = refl
-kind_fits kind.Pfn (op.Pfn n) h = refl
-kind_fits kind.Mode (op.Mode m) h = refl
-kind_fits kind.Label (op.Label l) h = refl
+kind_fits kind.addr (op.Addr n) h = refl
+kind_fits kind.len (op.Len n) h = refl
+kind_fits kind.bytes (op.Bytes bytes) h = refl
+kind_fits kind.vpn (op.Vpn n) h = refl
+kind_fits kind.pfn (op.Pfn n) h = refl
+kind_fits kind.mode (op.Mode m) h = refl
+kind_fits kind.label (op.Label l) h = refl
 kind_fits _ _ h = absurd h
 
 pub kinds_fit : (ks : List Kind) (xs : List Operand) → FitAll ks xs → have_kinds ks xs ≡ true

@@ -3,7 +3,6 @@ pub mod Ranges
 pub mod Numerals
 pub mod Hex
 pub mod WordLaws
-pub mod Onto
 pub mod Printed
 pub mod KindLaws
 pub mod WholeLaws

@@ -6,8 +6,8 @@ use Rattle.std.specs.Fmt.{decimal}
 use Rattle.std.proofs.lemmas.Fmt.{decimal_nonempty}
 use Rattle.std.proofs.lemmas.Bool.{lt-ltb}
 use Rattle.neph_base.specs.declared.command.Mode.TheVariants.{Ro, Rw}
-use Rattle.neph_command.specs.declared.operand.Kind.{Kind}
-use Rattle.neph_command.specs.declared.operand.Kind.TheVariants as kind
+use Rattle.neph_command.specs.Kind.{Kind}
+use Rattle.neph_command.specs.Kind.{Kind as kind}
 use Rattle.neph_command.specs.declared.operand.Operand.{Operand}
 use Rattle.neph_command.specs.declared.operand.Operand.TheVariants as op
 use Rattle.neph_model.specs.Words.{hex}
@@ -29,14 +29,14 @@ hex_whole [] some = absurd (omega arith)
 hex_whole (b ∷ bytes) some = lt-ltb 0 (length (hex (b ∷ bytes))) (omega arith)
 
 operand_whole : (k : Kind) (x : Operand) → Fits k x → nat_lt 0 (length (operand_word x)) ≡ true
-operand_whole kind.Addr (op.Addr n) h = number_whole n (omega (arith, h))
-operand_whole kind.Len (op.Len n) h = number_whole n (omega (arith, h.1))
-operand_whole kind.Bytes (op.Bytes bytes) h = hex_whole bytes h.some
-operand_whole kind.Vpn (op.Vpn n) h = number_whole n (omega (arith, h))
-operand_whole kind.Pfn (op.Pfn n) h = number_whole n (omega (arith, h))
-operand_whole kind.Mode (op.Mode Ro) h = refl
-operand_whole kind.Mode (op.Mode Rw) h = refl
-operand_whole kind.Label (op.Label l) h = name_whole l h
+operand_whole kind.addr (op.Addr n) h = number_whole n (omega (arith, h))
+operand_whole kind.len (op.Len n) h = number_whole n (omega (arith, h.1))
+operand_whole kind.bytes (op.Bytes bytes) h = hex_whole bytes h.some
+operand_whole kind.vpn (op.Vpn n) h = number_whole n (omega (arith, h))
+operand_whole kind.pfn (op.Pfn n) h = number_whole n (omega (arith, h))
+operand_whole kind.mode (op.Mode Ro) h = refl
+operand_whole kind.mode (op.Mode Rw) h = refl
+operand_whole kind.label (op.Label l) h = name_whole l h
 operand_whole _ _ h = absurd h
 
 abbrev pub are_whole : List (List ℕ) → Bool

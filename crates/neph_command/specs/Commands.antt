@@ -80,6 +80,11 @@ verb_said s = (parts_of s).verb
 abbrev pub said_words : Said → List (List ℕ)
 said_words s = words_of (parts_of s)
 
+-- What the words behind a keyword say, each judged alone.
+abbrev pub said_alone : Verb → List (List ℕ) → Result Said Why
+said_alone v words = if length words == length (kinds_of v)
+    then (operands (kinds_of v) words >>= λ xs. ok_or (command_of v xs) why.Form) else Err why.Form
+
 -- bytes that would end there in their page, and mustn't cross its end
 abbrev pub unless_within : ℕ → Why → Option Why
 unless_within end w = if nat_lt 4096 end then Some w else None

@@ -4,8 +4,8 @@ use Rattle.std.specs.Fmt.{decimal}
 use Rattle.neph_base.specs.declared.command.Mode.{Mode}
 use Rattle.neph_model.specs.Words.{hex, mode_word}
 use Rattle.neph_command.specs.Words.{◌>>=◌, number, piece, mode, name, is_name}
-use Rattle.neph_command.specs.declared.operand.Kind.{Kind}
-use Rattle.neph_command.specs.declared.operand.Kind.TheVariants as kind
+use Rattle.neph_command.specs.Kind.{Kind}
+use Rattle.neph_command.specs.Kind.{Kind as kind}
 use Rattle.neph_command.specs.declared.operand.Operand.{Operand}
 use Rattle.neph_command.specs.declared.operand.Operand.TheVariants as op
 use Rattle.neph_command.specs.declared.why.Why.{Why}
@@ -17,13 +17,13 @@ as_operand to (Err w) = Err w
 
 -- what a word of a kind says
 abbrev pub operand : Kind → List ℕ → Result Operand Why
-operand kind.Addr word = as_operand op.Addr (number 0 1073741823 word)
-operand kind.Len word = as_operand op.Len (number 1 64 word)
-operand kind.Bytes word = as_operand op.Bytes (piece word)
-operand kind.Vpn word = as_operand op.Vpn (number 0 262143 word)
-operand kind.Pfn word = as_operand op.Pfn (number 0 1023 word)
-operand kind.Mode word = as_operand op.Mode (mode word)
-operand kind.Label word = as_operand op.Label (name word)
+operand kind.addr word = as_operand op.Addr (number 0 1073741823 word)
+operand kind.len word = as_operand op.Len (number 1 64 word)
+operand kind.bytes word = as_operand op.Bytes (piece word)
+operand kind.vpn word = as_operand op.Vpn (number 0 262143 word)
+operand kind.pfn word = as_operand op.Pfn (number 0 1023 word)
+operand kind.mode word = as_operand op.Mode (mode word)
+operand kind.label word = as_operand op.Label (name word)
 
 -- what words say, judged from the left
 abbrev pub operands : List Kind → List (List ℕ) → Result (List Operand) Why
@@ -80,13 +80,13 @@ pub record IsPiece (bytes : List ℕ) : Type 0 where
 
 -- an operand of this kind, in its range
 abbrev pub Fits : Kind → Operand → Type 0
-Fits kind.Addr (op.Addr n) = n ≤ 1073741823
-Fits kind.Len (op.Len n) = (1 ≤ n) × (n ≤ 64)
-Fits kind.Bytes (op.Bytes bytes) = IsPiece bytes
-Fits kind.Vpn (op.Vpn n) = n ≤ 262143
-Fits kind.Pfn (op.Pfn n) = n ≤ 1023
-Fits kind.Mode (op.Mode m) = ⊤
-Fits kind.Label (op.Label l) = is_name l ≡ true
+Fits kind.addr (op.Addr n) = n ≤ 1073741823
+Fits kind.len (op.Len n) = (1 ≤ n) × (n ≤ 64)
+Fits kind.bytes (op.Bytes bytes) = IsPiece bytes
+Fits kind.vpn (op.Vpn n) = n ≤ 262143
+Fits kind.pfn (op.Pfn n) = n ≤ 1023
+Fits kind.mode (op.Mode m) = ⊤
+Fits kind.label (op.Label l) = is_name l ≡ true
 Fits _ _ = ⊥
 
 -- operands of these kinds, one each

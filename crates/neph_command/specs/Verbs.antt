@@ -1,8 +1,8 @@
 -- The table of commands: the keyword of each, and what stands behind it.
 use Rattle.std.specs.Prelude.{ℕ, Bool, false, ◌==◌, List, [], ◌∷◌, codes, Option, find}
 use Rattle.neph_command.specs.Words.{equals}
-use Rattle.neph_command.specs.declared.operand.Kind.{Kind}
-use Rattle.neph_command.specs.declared.operand.Kind.TheVariants as kind
+use Rattle.neph_command.specs.Kind.{Kind}
+use Rattle.neph_command.specs.Kind.{Kind as kind}
 use Rattle.neph_command.specs.declared.verb.Verb.{Verb}
 use Rattle.neph_command.specs.declared.verb.Verb.TheVariants as verb
 
@@ -23,13 +23,13 @@ keyword verb.Free = codes "free"
 keyword verb.Clone = codes "clone"
 
 abbrev pub kinds_of : Verb → List Kind
-kinds_of verb.W = kind.Addr ∷ kind.Bytes ∷ []
-kinds_of verb.R = kind.Addr ∷ kind.Len ∷ []
-kinds_of verb.Map = kind.Vpn ∷ kind.Pfn ∷ kind.Mode ∷ []
-kinds_of verb.Unmap = kind.Vpn ∷ []
-kinds_of verb.Jump = kind.Label ∷ []
-kinds_of verb.JChild = kind.Label ∷ []
-kinds_of verb.JFail = kind.Label ∷ []
+kinds_of verb.W = kind.addr ∷ kind.bytes ∷ []
+kinds_of verb.R = kind.addr ∷ kind.len ∷ []
+kinds_of verb.Map = kind.vpn ∷ kind.pfn ∷ kind.mode ∷ []
+kinds_of verb.Unmap = kind.vpn ∷ []
+kinds_of verb.Jump = kind.label ∷ []
+kinds_of verb.JChild = kind.label ∷ []
+kinds_of verb.JFail = kind.label ∷ []
 kinds_of verb.Exit = []
 kinds_of verb.Free = []
 kinds_of verb.Clone = []

@@ -1,11 +1,11 @@
 // Commands as their lines say them.
-ghost use Rattle.std.specs.Prelude.{◌≡◌, ◌+◌, ◌≤◌, ℕ, List, Ok, Err, OnOk, IfErr, length, map, take};
-ghost use Rattle.neph_command.specs.Kinds.{operands};
-ghost use Rattle.neph_command.specs.Commands.{command_of, extra, extra_said, unless_within, checked, command_said};
+ghost use Rattle.std.specs.Prelude.{◌≡◌, ◌+◌, ◌≤◌, ℕ, List, map};
+ghost use Rattle.neph_command.specs.Commands.{extra, extra_said, said_alone, unless_within, command_said};
 
-use crate::operand::{Kind, Operand, read_operand};
+use crate::operand::{addr, label, len, pfn, vpn};
 use crate::verb::Verb;
 use crate::why::Why;
+use crate::word::{mode, piece};
 use neph_base::{Command, PAGE_BYTES, Piece};
 
 /// A command as its line says it. A jump has the name of its label, whose place isn't known yet.
@@ -25,67 +25,39 @@ pub fn command_line(verb: Verb, words: &[&[u8]]) -> Result<Said, Why>
     if verb.is_unbuilt(words.len()) {
         return Err(Why::Unbuilt);
     }
-    let kinds = verb.kinds();
-    if words.len() != kinds.len() {
-        return Err(Why::Form);
-    }
-    let mut found = [Operand::Len(0); 4];
-    operands(&mut found, kinds, words)?;
-    checked(verb, &found[..kinds.len()])
-}
-
-// What as many words as kinds say, judged from the left.
-fn operands(found: &mut [Operand; 4], kinds: &[Kind], words: &[&[u8]]) -> Result<(), Why>
-    requires same { length kinds.now ≡ length words.now }
-    requires few { length kinds.now ≤ 4 }
-    ensures found { OnOk result (operands kinds.now (map (λ w. w.now) words.now)
-        ≡ Ok (take (length kinds.now) found.new)) }
-    ensures fault { IfErr result (λ w. operands kinds.now (map (λ w. w.now) words.now) ≡ Err w) }
-{
-    for i in 0..kinds.len() {
-        found[i] = read_operand(kinds[i], words[i])?;
-    }
-    Ok(())
-}
-
-// The command of these operands, unless two of them are wrong together.
-fn checked(verb: Verb, operands: &[Operand]) -> Result<Said, Why>
-    ensures { result ≡ checked verb operands.now }
-{
-    let Some(said) = command_of(verb, operands) else {
-        return Err(Why::Form);
-    };
+    let said = said_alone(verb, words)?;
     match extra_said(&said) {
         Some(why) => Err(why),
         None => Ok(said),
     }
 }
 
-fn command_of(verb: Verb, operands: &[Operand]) -> Option<Said>
-    ensures { result ≡ command_of verb operands.now }
+// What the words say, each judged alone, from the left.
+fn said_alone(verb: Verb, words: &[&[u8]]) -> Result<Said, Why>
+    ensures { result ≡ said_alone verb (map (λ w. w.now) words.now) }
 {
-    match (verb, operands) {
-        (Verb::W, [a, b]) => Some(Said::Whole(Command::W {
-            addr: a.addr()?,
-            bytes: b.bytes()?,
+    match (verb, words) {
+        (Verb::W, [a, b]) => Ok(Said::Whole(Command::W {
+            addr: addr(a)?,
+            bytes: piece(b)?,
         })),
-        (Verb::R, [a, b]) => Some(Said::Whole(Command::R {
-            addr: a.addr()?,
-            len: b.len()?,
+        (Verb::R, [a, b]) => Ok(Said::Whole(Command::R {
+            addr: addr(a)?,
+            len: len(b)?,
         })),
-        (Verb::Map, [a, b, c]) => Some(Said::Whole(Command::Map {
-            vpn: a.vpn()?,
-            pfn: b.pfn()?,
-            mode: c.mode()?,
+        (Verb::Map, [a, b, c]) => Ok(Said::Whole(Command::Map {
+            vpn: vpn(a)?,
+            pfn: pfn(b)?,
+            mode: mode(c)?,
         })),
-        (Verb::Unmap, [a]) => Some(Said::Whole(Command::Unmap { vpn: a.vpn()? })),
-        (Verb::Jump, [a]) => Some(Said::Jump(a.label()?)),
-        (Verb::JChild, [a]) => Some(Said::JChild(a.label()?)),
-        (Verb::JFail, [a]) => Some(Said::JFail(a.label()?)),
-        (Verb::Exit, []) => Some(Said::Whole(Command::Exit)),
-        (Verb::Free, []) => Some(Said::Whole(Command::Free)),
-        (Verb::Clone, []) => Some(Said::Whole(Command::Clone)),
-        _ => None,
+        (Verb::Unmap, [a]) => Ok(Said::Whole(Command::Unmap { vpn: vpn(a)? })),
+        (Verb::Jump, [a]) => Ok(Said::Jump(label(a)?)),
+        (Verb::JChild, [a]) => Ok(Said::JChild(label(a)?)),
+        (Verb::JFail, [a]) => Ok(Said::JFail(label(a)?)),
+        (Verb::Exit, []) => Ok(Said::Whole(Command::Exit)),
+        (Verb::Free, []) => Ok(Said::Whole(Command::Free)),
+        (Verb::Clone, []) => Ok(Said::Whole(Command::Clone)),
+        _ => Err(Why::Form),
     }
 }
 

@@ -11,7 +11,7 @@ mod why;
 mod word;
 
 pub use command::{Said, command_line};
-pub use operand::{Kind, Operand};
+pub use operand::Operand;
 pub use printing::put_command;
 pub use text::{put_hex, put_labelled, put_number, put_word};
 pub use verb::{Verb, begun_by};

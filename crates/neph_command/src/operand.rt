@@ -1,30 +1,10 @@
-// What the words behind a keyword say, by their kinds.
+// What a word in the place of each kind says.
 ghost use Rattle.std.specs.Prelude.{◌≡◌};
-ghost use Rattle.neph_command.specs.Kinds.{operand, addr_in, len_in, bytes_in, vpn_in, pfn_in, mode_in, label_in};
-ghost use Rattle.neph_command.specs.Words.{name};
+ghost use Rattle.neph_command.specs.Words.{name, number};
 
 use crate::why::Why;
-use crate::word::{is_name, mode, number, piece};
+use crate::word::{is_name, number};
 use neph_base::{Mode, Pfn, Piece, VAddr, Vpn};
-
-/// What may stand in the place of a word.
-#[derive(Clone, Copy, Debug, PartialEq, Eq)]
-pub enum Kind {
-    /// An address.
-    Addr,
-    /// How many bytes, 1 to 64.
-    Len,
-    /// 1 to 64 bytes in hexadecimal.
-    Bytes,
-    /// The number of a virtual page.
-    Vpn,
-    /// The number of one of the guest's pages.
-    Pfn,
-    /// How a page is mapped.
-    Mode,
-    /// A label's name.
-    Label,
-}
 
 /// What a word says.
 #[derive(Clone, Copy, Debug, PartialEq, Eq)]
@@ -38,111 +18,40 @@ pub enum Operand {
     Label(Piece),
 }
 
-impl Operand {
-    pub fn addr(&self) -> Option<VAddr>
-        ensures { result ≡ addr_in self.now }
-    {
-        match *self {
-            Operand::Addr(a) => Some(a),
-            _ => None,
-        }
-    }
-
-    pub fn len(&self) -> Option<u8>
-        ensures { result ≡ len_in self.now }
-    {
-        match *self {
-            Operand::Len(l) => Some(l),
-            _ => None,
-        }
-    }
-
-    pub fn bytes(&self) -> Option<Piece>
-        ensures { result ≡ bytes_in self.now }
-    {
-        match *self {
-            Operand::Bytes(b) => Some(b),
-            _ => None,
-        }
-    }
-
-    pub fn vpn(&self) -> Option<Vpn>
-        ensures { result ≡ vpn_in self.now }
-    {
-        match *self {
-            Operand::Vpn(v) => Some(v),
-            _ => None,
-        }
-    }
-
-    pub fn pfn(&self) -> Option<Pfn>
-        ensures { result ≡ pfn_in self.now }
-    {
-        match *self {
-            Operand::Pfn(p) => Some(p),
-            _ => None,
-        }
-    }
-
-    pub fn mode(&self) -> Option<Mode>
-        ensures { result ≡ mode_in self.now }
-    {
-        match *self {
-            Operand::Mode(m) => Some(m),
-            _ => None,
-        }
-    }
-
-    pub fn label(&self) -> Option<Piece>
-        ensures { result ≡ label_in self.now }
-    {
-        match *self {
-            Operand::Label(l) => Some(l),
-            _ => None,
-        }
-    }
-}
-
-/// What a word of a kind says.
-pub fn read_operand(kind: Kind, word: &[u8]) -> Result<Operand, Why>
-    ensures { result ≡ operand kind word.now }
+/// A word in the place of an address.
+pub fn addr(word: &[u8]) -> Result<VAddr, Why>
+    ensures { result ≡ number 0 1073741823 word.now }
 {
-    match kind {
-        Kind::Addr => {
-            let n = number(word, 0, 1_073_741_823)?;
-            let addr = VAddr::new(n).ok_or(Why::Number)?;
-            Ok(Operand::Addr(addr))
-        }
-        Kind::Len => {
-            let n = number(word, 1, 64)?;
-            Ok(Operand::Len(n as u8))
-        }
-        Kind::Bytes => {
-            let bytes = piece(word)?;
-            Ok(Operand::Bytes(bytes))
-        }
-        Kind::Vpn => {
-            let n = number(word, 0, 262_143)?;
-            let vpn = Vpn::new(n).ok_or(Why::Number)?;
-            Ok(Operand::Vpn(vpn))
-        }
-        Kind::Pfn => {
-            let n = number(word, 0, 1023)?;
-            let pfn = Pfn::new(n).ok_or(Why::Number)?;
-            Ok(Operand::Pfn(pfn))
-        }
-        Kind::Mode => {
-            let mode = mode(word)?;
-            Ok(Operand::Mode(mode))
-        }
-        Kind::Label => {
-            let name = label(word)?;
-            Ok(Operand::Label(name))
-        }
-    }
+    let n = number(word, 0, 1_073_741_823)?;
+    VAddr::new(n).ok_or(Why::Number)
 }
 
-fn label(word: &[u8]) -> Result<Piece, Why>
+/// A word in the place of a number of bytes.
+pub fn len(word: &[u8]) -> Result<u8, Why>
+    ensures { result ≡ number 1 64 word.now }
+{
+    let n = number(word, 1, 64)?;
+    Ok(n as u8)
+}
+
+/// A word in the place of the number of a virtual page.
+pub fn vpn(word: &[u8]) -> Result<Vpn, Why>
+    ensures { result ≡ number 0 262143 word.now }
+{
+    let n = number(word, 0, 262_143)?;
+    Vpn::new(n).ok_or(Why::Number)
+}
+
+/// A word in the place of the number of one of the guest's pages.
+pub fn pfn(word: &[u8]) -> Result<Pfn, Why>
+    ensures { result ≡ number 0 1023 word.now }
+{
+    let n = number(word, 0, 1023)?;
+    Pfn::new(n).ok_or(Why::Number)
+}
+
+/// A word in the place of a label's name.
+pub fn label(word: &[u8]) -> Result<Piece, Why>
     ensures { result ≡ name word.now }
 {
     if !is_name(word) {

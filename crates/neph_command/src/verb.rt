@@ -1,8 +1,6 @@
-// The table of commands: the keyword of each, and what stands behind it.
-ghost use Rattle.std.specs.Prelude.{◌≡◌, ◌≤◌, length};
-ghost use Rattle.neph_command.specs.Verbs.{keyword, kinds_of, verbs, verb_of, is_unbuilt};
-
-use crate::operand::Kind;
+// The commands of programs and their keywords.
+ghost use Rattle.std.specs.Prelude.{◌≡◌};
+ghost use Rattle.neph_command.specs.Verbs.{keyword, verbs, verb_of, is_unbuilt};
 
 /// A command of a program.
 #[derive(Clone, Copy, Debug, PartialEq, Eq)]
@@ -53,25 +51,6 @@ impl Verb {
             Verb::Exit => b"exit",
             Verb::Free => b"free",
             Verb::Clone => b"clone",
-        }
-    }
-
-    /// What stands behind it.
-    pub fn kinds(self) -> &'static [Kind]
-        ensures table { result.now ≡ kinds_of self }
-        ensures few { length result.now ≤ 4 }
-    {
-        match self {
-            Verb::W => &[Kind::Addr, Kind::Bytes],
-            Verb::R => &[Kind::Addr, Kind::Len],
-            Verb::Map => &[Kind::Vpn, Kind::Pfn, Kind::Mode],
-            Verb::Unmap => &[Kind::Vpn],
-            Verb::Jump => &[Kind::Label],
-            Verb::JChild => &[Kind::Label],
-            Verb::JFail => &[Kind::Label],
-            Verb::Exit => &[],
-            Verb::Free => &[],
-            Verb::Clone => &[],
         }
     }
 

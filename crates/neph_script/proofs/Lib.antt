@@ -1,6 +1,8 @@
 pub mod Places
+pub mod Onto
 pub mod Settled
 pub mod Cuts
+pub mod PrintedLines
 pub mod Inverse
 pub mod ActorLaws
 pub mod LineLaws

@@ -7,7 +7,7 @@ use Rattle.neph_command.specs.declared.command.Said.{Said}
 use Rattle.neph_command.specs.declared.why.Why.{Why}
 use Rattle.neph_command.specs.Words.{◌>>=◌}
 use Rattle.neph_script.specs.Lines.{settled, settled_one}
-use Rattle.neph_command.proofs.Onto.{onto, onto_more}
+use Rattle.neph_script.proofs.Onto.{onto, onto_more}
 
 one_step : (labels : List Label) (said : List Said) (i : ℕ) (s : Said) → i < length said → s ≡ get_or said i s
     → settled labels i (drop i said) ≡ (settled_one labels i s >>= λ c. settled labels (i + 1) (drop (i + 1) said) >>= λ cs. Ok (c ∷ cs))

@@ -8,5 +8,6 @@ pub mod Lines
 pub mod Spelling
 pub mod Text
 pub mod Grammar
+pub mod Bytes
 pub mod Seen
 pub mod Spells

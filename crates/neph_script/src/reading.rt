@@ -1,7 +1,8 @@
 // Reads a script, line by line.
-ghost use Rattle.std.specs.Prelude.{◌≡◌, ◌++◌, ◌∷◌, [], ◌<◌, ◌≤◌, ◌+◌, ◌-◌, ◌^◌, ℕ, List, map, length, OnOk, IfOk, IfSome, IfNone, Ok};
+ghost use Rattle.std.specs.Prelude.{◌≡◌, ◌++◌, ◌∷◌, [], ◌<◌, ◌≤◌, ◌+◌, ◌-◌, ◌^◌, ℕ, List, map, length, true, OnOk, IfOk, IsTrue, Ok};
 ghost use Rattle.std.specs.List.{list_all};
 ghost use Rattle.neph_script.specs.Grammar.{parts_at, lines, is_printed, is_text, is_skipped, may_end, with_line, read_script, ended};
+ghost use Rattle.neph_script.specs.Bytes.{may_stand_in_lines};
 ghost use Rattle.neph_script.specs.Outcomes.{Reads, IfBad};
 ghost use Rattle.neph_script.specs.Spells.{Spells, IsFault};
 ghost use Rattle.neph_model.specs.WellFormed.{IsWellFormed};
@@ -37,11 +38,12 @@ fn read(alloc: Global, bytes: &[u8]) -> Result<Script, ParseEnd>
 {
     let mut reader = Reader::new(alloc);
     let mut words = Vec::new(alloc);
+    let printed = are_lines_printed(bytes);
     let mut rest = bytes;
     let mut line = 1;
     'lines: while !rest.is_empty() {
         let (first, more) = first_line(rest);
-        match reader.line(alloc, first, &mut words) {
+        match reader.line(alloc, first, printed, &mut words) {
             Err(LineEnd::Bad(why)) => return Err(ParseEnd::Bad(BadScript { line, why })),
             Err(LineEnd::NoMemory) => return Err(ParseEnd::NoMemory),
             Ok(()) => {}
@@ -58,38 +60,45 @@ fn first_line(text: &[u8]) -> (&[u8], &[u8])
     ensures lines { lines text.now ≡ result.0.now ∷ lines result.1.now }
     ensures shorter { length result.1.now < length text.now }
 {
-    match halves(text, b'\n') {
+    match memchr(b'\n', text) {
         None => (text, &[]),
-        Some(cut) => cut,
+        Some(at) => (&text[..at], &text[at + 1..]),
     }
 }
 
-// What stands before the first place of a byte, and what stands behind it.
-fn halves(text: &[u8], mark: u8) -> Option<(&[u8], &[u8])>
-    ensures found { IfSome result (λ cut. parts_at mark text.now
-        ≡ cut.0.now ∷ parts_at mark cut.1.now) }
-    ensures none { IfNone result (parts_at mark text.now ≡ text.now ∷ []) }
-    ensures shorter { IfSome result (λ cut. length cut.1.now < length text.now) }
+// Whether each line of a text is printed: many bytes are judged at a time, since nothing leaves the
+// loop before the end.
+fn are_lines_printed(text: &[u8]) -> bool
+    ensures { result ≡ list_all may_stand_in_lines text.now }
 {
-    match memchr(mark, text) {
-        None => None,
-        Some(at) => Some((&text[..at], &text[at + 1..])),
+    let mut all = true;
+    for b in text {
+        all &= may_stand_in_lines(*b);
     }
+    all
+}
+
+fn may_stand_in_lines(b: u8) -> bool
+    ensures { result ≡ may_stand_in_lines b }
+{
+    (32 <= b && b <= 126) || b == b'\n'
 }
 
 impl Reader {
-    // Takes a line.
+    // Takes a line, which may be known to be printed.
     fn line<'a>(
         &mut self,
         alloc: Global,
         line: &'a [u8],
+        printed: bool,
         words: &mut Vec<&'a [u8]>,
     ) -> Result<(), LineEnd>
-        requires { IsSound self.old }
+        requires sound { IsSound self.old }
+        requires printed { IsTrue printed → list_all is_printed line.now ≡ true }
         ensures moves { Moves (with_line (seen self.old) line.now) (seen self.new) result }
         ensures sound { OnOk result (IsSound self.new) }
     {
-        if !is_text(line) {
+        if !is_text(line, printed) {
             return Err(LineEnd::Bad(Why::Bytes));
         }
         if is_skipped(line) {
@@ -126,16 +135,16 @@ fn may_end(place: Place) -> bool
     place == Place::Started || place == Place::Turned
 }
 
-fn is_text(line: &[u8]) -> bool
+fn is_text(line: &[u8], printed: bool) -> bool
+    requires { IsTrue printed → list_all is_printed line.now ≡ true }
     ensures { result ≡ is_text line.now }
 {
-    line.len() <= 8192 && are_printed(line)
+    line.len() <= 8192 && (printed || are_printed(line))
 }
 
 fn are_printed(line: &[u8]) -> bool
     ensures { result ≡ list_all is_printed line.now }
 {
-    // With no way out before the end, many bytes are judged at a time.
     let mut all = true;
     for b in line {
         all &= 32 <= *b && *b <= 126;
@@ -155,9 +164,9 @@ fn cut<'a>(line: &'a [u8], words: &mut Vec<&'a [u8]>) -> Result<(), NoMemory>
 {
     words.clear();
     let mut rest = line;
-    'words: while let Some((word, more)) = halves(rest, b' ') {
-        words.push(word)?;
-        rest = more;
+    'words: while let Some(at) = memchr(b' ', rest) {
+        words.push(&rest[..at])?;
+        rest = &rest[at + 1..];
     }
     words.push(rest)?;
     Ok(())

@@ -1,6 +1,6 @@
 use Rattle.std.proofs.Common.{◌≡◌, drop, map}
 use Rattle.neph_script.specs.Lines.{actors}
-use Rattle.neph_command.proofs.Onto.{onto}
+use Rattle.neph_script.proofs.Onto.{onto}
 use Rattle.neph_script.proofs.judge.actors.Given as goal
 
 abbrev pub invariant-loop-word : goal.invariant-loop-word

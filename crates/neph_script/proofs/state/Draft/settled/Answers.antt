@@ -1,6 +1,6 @@
 use Rattle.std.proofs.Common.{◌∙◌, ◌+◌, ap, sym, List, drop}
 use Rattle.neph_base.specs.declared.command.Command.{Command}
-use Rattle.neph_command.proofs.Onto.{onto}
+use Rattle.neph_script.proofs.Onto.{onto}
 use Rattle.neph_script.specs.Lines.{settled}
 use Rattle.neph_script.proofs.Settled.{refused, one_more, at_end}
 use Rattle.neph_script.proofs.state.Draft.settled.Goals as goal

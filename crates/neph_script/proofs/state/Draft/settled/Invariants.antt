@@ -1,6 +1,6 @@
 use Rattle.std.proofs.Common.{◌≡◌, drop}
 use Rattle.neph_script.specs.Lines.{settled}
-use Rattle.neph_command.proofs.Onto.{onto}
+use Rattle.neph_script.proofs.Onto.{onto}
 use Rattle.neph_script.proofs.state.Draft.settled.Given as goal
 
 abbrev pub invariant-loop-line : goal.invariant-loop-line
