@@ -1,16 +1,17 @@
 -- How many nodes are at and below a path.
-use Rattle.std.proofs.Common.{◌≡◌, inl, inr, ℕ, suc, ◌+◌, ◌-◌, ◌<◌, ◌≤◌, Bool, true, false, cond, List, [], ◌∷◌, length, Some, None, is_some, refl, sym, ap, ◌∙◌, arith, get_or}
-use Rattle.std.specs.Prelude.{not}
+use Rattle.std.proofs.Common.{◌≡◌, inl, inr, ℕ, zero, suc, ◌+◌, ◌-◌, ◌<◌, ◌≤◌, Bool, true, false, cond, List, [], ◌∷◌, length, Option, Some, None, is_some, refl, sym, ap, subst, ◌∙◌, arith, get_or}
+use Rattle.std.specs.Prelude.{not, slice_get, IfNone, IsSome}
 use Rattle.std.specs.Ordering.{eq_by_cmp}
 use Rattle.std.specs.Cmp.Lexicographic.{nat_list_cmp_total}
 use Rattle.std.specs.FinMap.{empty, get-empty, len-empty, get, contains_key, insert, len, entries, get-insert, len-insert, len-entries}
 use Rattle.std.specs.FinMap.Entries.{where_key}
-use Rattle.neph_tree.specs.Places.{is_within}
-use Rattle.neph_tree.specs.Nodes.{Nodes, subtree, without}
+use Rattle.neph_tree.specs.Places.{root, is_within}
+use Rattle.neph_tree.specs.Nodes.{Nodes, IsTree, subtree, without}
 use Rattle.neph_tree.proofs.EntryLemmas.{order, same_nodes, get-where, entries-retain_keys, tied_same}
 use Rattle.neph_tree.proofs.Within.{within_trans}
 use Rattle.neph_tree.proofs.HomeLemmas.{within_either}
-use Rattle.neph_tree.proofs.TreeLemmas.{count_there}
+use Rattle.neph_tree.proofs.TreeLemmas.{count_there, not_false}
+use Rattle.neph_tree.proofs.ChildLemmas.{all_within_root}
 use Rattle.neph_tree.specs.Places.{home}
 use Rattle.neph_tree.specs.Counts.{AreCounted}
 
@@ -113,7 +114,7 @@ count_apart m h top out off = ap (λ x. len x) (same_nodes _ _ (λ q. cut_twice 
 
 -- ---- the counts of the homes
 pub counted_none : (counts : List ℕ) (m : Nodes) → ((d : ℕ) → d < 64 → get_or counts d 0 ≡ 0) → len m ≡ 0 → AreCounted counts m
-counted_none counts m zero none d inside = omega (arith, zero d inside, len_part m (home d), none)
+counted_none counts m clear none d inside = omega (arith, clear d inside, len_part m (home d), none)
 
 pub counted_new : (old new : List ℕ) (m : Nodes) (path value : List ℕ) → AreCounted old m → contains_key m path ≡ false → ((d : ℕ) → d < 64 → get_or new d 0 ≡ get_or old d 0 + cond (is_within (home d) path) 1 0) → AreCounted new (insert m path value)
 counted_new old new m path value are missing up d inside = up d inside ∙ ap (λ n. n + cond (is_within (home d) path) 1 0) (are d inside) ∙ sym (count_new m path value (home d) missing)
@@ -132,3 +133,38 @@ counted_cut old new m top gone are all down d inside = down d inside ∙ by (is_
 -- there are enough to take away
 pub gone_fits : (old : List ℕ) (m : Nodes) (top : List ℕ) (gone : ℕ) → AreCounted old m → gone ≡ len (subtree m top) → (d : ℕ) → d < 64 → is_within (home d) top ≡ true → gone ≤ get_or old d 0
 gone_fits old m top gone are all d inside w = let whole = count_cut m (home d) top w in omega (arith, whole, all, are d inside)
+
+-- a value that is replaced keeps the counts
+pub counted_replaced : {X : Type 0} (back : Option X) (counts : List ℕ) (m n : Nodes) (path value : List ℕ) → IfNone back (n ≡ insert m path value) → (IsSome back → n ≡ m) → is_some back ≡ not (contains_key m path) → AreCounted counts m → (len n ≡ len m) × AreCounted counts n
+counted_replaced None counts m n path value set same tells are =
+    let there : contains_key m path ≡ true = not_false (contains_key m path) tells in
+    let Counted : Nodes → Type 0 = λ x. AreCounted counts x in
+    (ap (λ x. len x) set ∙ len-insert nat_list_cmp_total m path value ∙ ap (λ b. cond b (len m) (len m + 1)) there, subst Counted (sym set) (counted_there counts m path value are there))
+counted_replaced (Some x) counts m n path value set same tells are =
+    let Counted : Nodes → Type 0 = λ y. AreCounted counts y in
+    (ap (λ y. len y) (same refl), subst Counted (sym (same refl)) are)
+
+-- all nodes of a tree are within `/`
+pub whole_tree : (m : Nodes) → IsTree m → subtree m root ≡ m
+whole_tree m tree = same_nodes _ _ (λ q. get-where m (λ p. is_within root p) q ∙ by q (get m q) refl) where
+  by : (q : List ℕ) (o : Option (List ℕ)) → get m q ≡ o → cond (is_within root q) (get m q) None ≡ get m q
+  by q None e = none (is_within root q) (get m q) e
+    where
+      none : (b : Bool) (p : Option (List ℕ)) → p ≡ None → cond b p None ≡ p
+      none true p g = refl
+      none false p g = sym g
+  by q (Some v) e = ap (λ b. cond b (get m q) None) (all_within_root q (tree.paths q (ap is_some e)))
+
+pub entry_there : (m : Nodes) (es : List (List ℕ × List ℕ)) (i : ℕ) (e : List ℕ × List ℕ) → IsTree m → es ≡ entries (subtree m root) → i < length es → e ≡ get_or es i e → Some e ≡ slice_get (entries m) i
+entry_there m es i e tree is inside at = ap Some at ∙ sym (at_index es i e inside) ∙ ap (λ xs. slice_get xs i) (is ∙ ap (λ n. entries n) (whole_tree m tree)) where
+  at_index : (xs : List (List ℕ × List ℕ)) (k : ℕ) (d : List ℕ × List ℕ) → k < length xs → slice_get xs k ≡ Some (get_or xs k d)
+  at_index [] k d lt = absurd (omega (arith, lt))
+  at_index (x ∷ xs) zero d lt = refl
+  at_index (x ∷ xs) (suc k) d lt = at_index xs k d (omega (arith, lt))
+
+pub entry_missing : (m : Nodes) (es : List (List ℕ × List ℕ)) (i : ℕ) → IsTree m → es ≡ entries (subtree m root) → length es ≤ i → None ≡ slice_get (entries m) i
+entry_missing m es i tree is out = sym (past es i out) ∙ ap (λ xs. slice_get xs i) (is ∙ ap (λ n. entries n) (whole_tree m tree)) where
+  past : (xs : List (List ℕ × List ℕ)) (k : ℕ) → length xs ≤ k → slice_get xs k ≡ None
+  past [] k lt = refl
+  past (x ∷ xs) zero lt = absurd (omega (arith, lt))
+  past (x ∷ xs) (suc k) lt = past xs k (omega (arith, lt))

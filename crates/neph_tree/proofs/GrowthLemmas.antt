@@ -23,13 +23,6 @@ insert_elsewhere m k v q apart = get-insert nat_list_cmp_total m k v q ∙ by (e
   by true e = absurd (apart (tied_same q k e))
   by false e = refl
 
--- a value that is set back
-pub insert_back : (m : Nodes) (k v x : List ℕ) → get m k ≡ Some x → insert (insert m k v) k x ≡ m
-insert_back m k v x got = same_nodes _ _ (λ q. get-insert nat_list_cmp_total (insert m k v) k x q ∙ by q (eq_by_cmp order q k) refl) where
-  by : (q : List ℕ) (b : Bool) → eq_by_cmp order q k ≡ b → cond b (Some x) (get (insert m k v) q) ≡ get m q
-  by q true e = sym (ap (λ p. get m p) (tied_same q k e) ∙ got)
-  by q false e = get-insert nat_list_cmp_total m k v q ∙ ap (λ b. cond b (Some v) (get m q)) e
-
 outside : (top path q : List ℕ) → is_within top path ≡ true → is_within top q ≡ false → q ≡ path → ⊥
 outside top path q within out same = absurd (cc)
 

@@ -40,7 +40,7 @@ missing_keeps : (m : Nodes) (k q : List ℕ) → contains_key m q ≡ true → c
 missing_keeps m k q h =
     elim (contains_key m k) as (λ b. contains_key (cond b m (insert m k [])) q ≡ true) [ true ↦ h | false ↦ insert_keeps m k [] q h ]
 
-missing_is : (m : Nodes) (k : List ℕ) → contains_key (with_missing m k) k ≡ true
+pub missing_is : (m : Nodes) (k : List ℕ) → contains_key (with_missing m k) k ≡ true
 missing_is m k =
     elim (contains_key m k) as (λ b. contains_key m k ≡ b → contains_key (cond b m (insert m k [])) k ≡ true) [ true ↦ λ e. e | false ↦ λ e. insert_is m k [] ] refl
 
@@ -137,7 +137,7 @@ pub with_node_there : (m : Nodes) (path value : List ℕ) → IsTree m → is_pa
 with_node_there m path value tree is there =
     ap (λ n. insert n path value) (each_none m (ancestors path) (λ q one. let up = ancestor_within path q is one in tree.closed q path up.0 up.1 there))
 
-not_false : (b : Bool) → false ≡ not b → b ≡ true
+pub not_false : (b : Bool) → false ≡ not b → b ≡ true
 not_false true e = refl
 not_false false e = absurd cc
 

@@ -2,7 +2,7 @@
 use Rattle.std.specs.Prelude.{◌≡◌, ◌<◌, true, drop, get_or, ◌==◌, ◌&&◌, ◌||◌, ◌∷◌, ◌++◌, ◌+◌, ◌/◌, ◌%◌, [], ℕ, Bool, not, List, Option, Some, None, length, map, is_some, nat_lt, nat_eq, codes, if◌then◌else◌}
 use Rattle.std.specs.List.{list_all, join_with_byte}
 use Rattle.std.specs.Cmp.Lexicographic.{pointwise}
-use Rattle.neph_base.specs.Path.{slash}
+use Rattle.neph_base.specs.Path.{slash, is_path}
 
 -- the path without components
 abbrev pub root : List ℕ
@@ -42,6 +42,16 @@ as_name (Some text) = if is_name text then Some text else None
 -- the name of a child of this directory, None of every other path
 abbrev pub child_name : List ℕ → List ℕ → Option (List ℕ)
 child_name directory path = as_name (rest_below directory path)
+
+-- the path of the child of this name
+abbrev pub child_path : List ℕ → List ℕ → List ℕ
+child_path directory name = front_of_children directory ++ name
+
+-- a path is the path of a child of this name
+pub record IsChild (path directory name : List ℕ) : Type 0 where
+  pub form : is_path directory ≡ true
+  pub one : is_name name ≡ true
+  pub whole : path ≡ child_path directory name
 
 -- a slash stands at this place, and none behind it
 pub record IsLastSlash (path : List ℕ) (end : ℕ) : Type 0 where

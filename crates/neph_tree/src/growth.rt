@@ -138,6 +138,7 @@ fn is_near(near: Option<&[u8]>, above: &[u8]) -> bool
 
 // Makes a node of empty value, if there is none.
 fn make_front(nodes: &mut NodeMap, front: &[u8], top: &mut Option<usize>) -> Result<(), NoMemory>
+    requires { IsTree (with_missing nodes.old front.now) }
     ensures ok { OnOk result (nodes.new ≡ with_missing nodes.old front.now) }
     ensures first { OnOk result (top.new ≡ first_made nodes.old front.now top.old) }
     ensures err { OnErr result (nodes.new ≡ nodes.old) }
@@ -160,6 +161,7 @@ fn add_last(
     value: Vec<u8>,
     top: &mut Option<usize>,
 ) -> Result<bool, NoMemory>
+    requires { IsTree (with_added nodes.old path.now value.items) }
     ensures ok { OnOk result (nodes.new ≡ with_added nodes.old path.now value.items) }
     ensures itself { IfOk result (λ itself. itself ≡ not (contains_key nodes.old path.now)) }
     ensures first { OnOk result (top.new ≡ first_made nodes.old path.now top.old) }

@@ -4,11 +4,12 @@
 mod growth;
 mod homes;
 mod limit;
+mod node;
 mod node_map;
+mod node_slab;
 mod place;
 mod places;
 mod refusals;
-mod runs;
 #[cfg(test)]
 mod tests;
 mod tree;

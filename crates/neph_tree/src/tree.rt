@@ -77,10 +77,7 @@ impl Tree {
         ensures order { IfOk result (λ names.
             IfSome names (λ list. IsStrictlySortedBy (slice_cmp nat_cmp) list)) }
     {
-        if !self.nodes.contains(p.bytes()) {
-            return Ok(None);
-        }
-        Ok(Some(self.nodes.child_names(p.bytes())?))
+        self.nodes.names(p.bytes())
     }
 
     /// Sets a node for a domain, and makes the nodes above it that are missing, with empty values.
@@ -169,14 +166,7 @@ impl Tree {
     pub fn node(&self, i: u32) -> Result<Option<(Bytes, Bytes)>, NoMemory>
         ensures { IfOk result (λ node. node ≡ slice_get (map.entries self.now) i) }
     {
-        match self.nodes.entry(i) {
-            Some((path, value)) => {
-                let path = Bytes::of(copy_of(self.alloc, path)?);
-                let value = Bytes::of(copy_of(self.alloc, value)?);
-                Ok(Some((path, value)))
-            }
-            None => Ok(None),
-        }
+        self.nodes.entry(i)
     }
 
     /// Paths and values of the node and of all below it, in byte order of the paths.

@@ -1,7 +1,16 @@
 use Rattle.std.proofs.Common.{◌-◌, length, take, drop, ◌∙◌}
 use Rattle.neph_tree.proofs.GrowthLemmas.{first_at, step_at, skip_at, path_text}
+use Rattle.neph_tree.proofs.FrontLemmas.{tree_first, tree_later}
 use Rattle.neph_tree.proofs.growth.grow.Goals as goal
 use Rattle.neph_tree.proofs.growth.grow.Goals.{then-b-eq-SLASH+in_ok-make_front-2, else-b-eq-SLASH}
+
+pub make_front-requires : goal.make_front-requires
+make_front-requires c = tree_first c.args.nodes.now c.args.path.now c.requires.tree c.requires.path
+
+pub make_front-requires-then-b-eq-SLASH : goal.make_front-requires-then-b-eq-SLASH
+make_front-requires-then-b-eq-SLASH c =
+    let path = c.args.path.now in
+    tree_later c.args.nodes.now c.loop-i.nodes path (take (length path - 1) (drop 1 path)) c.loop-i.i (path_text path c.requires.path) c.requires.path c.requires.tree c.loop-i-test.true c.if-b-eq-SLASH.true c.loop-i.invariant.made
 
 pub loop-i-init : goal.loop-i-init
 loop-i-init c =

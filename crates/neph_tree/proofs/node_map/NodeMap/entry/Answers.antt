@@ -1,17 +1,16 @@
-use Rattle.std.proofs.Common.{◌≡◌, Some, sym, ap, ◌∙◌}
-use Rattle.std.proofs.lemmas.Iterator.Consumers.{nth_from_yields_List, YieldsList-from_rest}
-use Rattle.neph_tree.proofs.EntryLemmas.{entry_read, slice_get-entries}
+use Rattle.std.proofs.Common.{ap, ◌∙◌, arith}
+use Rattle.std.specs.Prelude.{slice_get}
+use Rattle.std.specs.FinMap as map
+use Rattle.neph_tree.specs.NodeSlab.{nodes_of}
+use Rattle.neph_tree.proofs.CountLemmas.{entry_there, entry_missing}
 use Rattle.neph_tree.proofs.node_map.NodeMap.entry.Goals as goal
 
-pub returns-in-Some : goal.returns-in-Some
-returns-in-Some c =
-    let es = c.self.inside.entries.entries in
-    let found = nth_from_yields_List c.nth.result _ c.args.place c.nth.ensures.ran (YieldsList-from_rest es c.iter.ensures.rest) in
-    let both : Some (c.deref.result.now, c.deref-in-Some.result.now) ≡ Some (c.in-Some.path.now.items, c.in-Some.value.now.items) = ap (λ p. Some (p, c.deref-in-Some.result.now)) c.deref.ensures.value ∙ ap (λ v. Some (c.in-Some.path.now.items, v)) c.deref-in-Some.ensures.value in
-    both ∙ ap (λ o. entry_read o) (sym c.in-Some.is) ∙ slice_get-entries es c.args.self.now c.args.place c.nth.result c.iter.ensures.ordered c.self.view_is found
+pub returns-then-place-len : goal.returns-then-place-len
+returns-then-place-len c =
+    entry_there (nodes_of c.self.inside.nodes) c.in_ok-all.all.items c.args.place c.swap_remove.result c.self.invariant.0.tree c.in_ok-all.ensures (omega (arith, c.if-place-len.true, c.len.ensures, c.in_ok-all.all.ok.0)) c.swap_remove.ensures.value
+    ∙ ap (λ m. slice_get (map.entries m) c.args.place) c.self.view_is
 
-pub returns-in-None : goal.returns-in-None
-returns-in-None c =
-    let es = c.self.inside.entries.entries in
-    let found = nth_from_yields_List c.nth.result _ c.args.place c.nth.ensures.ran (YieldsList-from_rest es c.iter.ensures.rest) in
-    ap (λ o. entry_read o) (sym c.in-None.is) ∙ slice_get-entries es c.args.self.now c.args.place c.nth.result c.iter.ensures.ordered c.self.view_is found
+pub returns : goal.returns
+returns c =
+    entry_missing (nodes_of c.self.inside.nodes) c.in_ok-all.all.items c.args.place c.self.invariant.0.tree c.in_ok-all.ensures (omega (arith, c.if-place-len.false, c.len.ensures, c.in_ok-all.all.ok.0))
+    ∙ ap (λ m. slice_get (map.entries m) c.args.place) c.self.view_is

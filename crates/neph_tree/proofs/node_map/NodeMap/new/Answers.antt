@@ -1,11 +1,11 @@
-use Rattle.std.proofs.Common.{◌∙◌, arith}
-use Rattle.std.specs.FinMap.{from_entries}
-use Rattle.neph_tree.specs.Entries.{shown}
-use Rattle.neph_tree.proofs.EntryLemmas.{order, len-shown}
+use Rattle.std.proofs.Common.{◌≡◌, ap, List, ℕ, ◌∙◌, arith}
+use Rattle.std.specs.FinMap.{len, len-empty}
+use Rattle.neph_tree.specs.NodeSlab.{nodes_of}
+use Rattle.neph_tree.proofs.EntryLemmas.{order}
 use Rattle.neph_tree.proofs.CountLemmas.{counted_none}
 use Rattle.neph_tree.proofs.node_map.NodeMap.new.Goals as goal
 
 pub invariant_of-result : goal.invariant_of-result
 invariant_of-result c =
-    let es = c.new.result.entries in
-    (omega (arith, c.new.ensures.len), counted_none c.no_counts.result (from_entries {R = order} (shown es)) c.no_counts.ensures (len-shown es c.new.ensures.ordered ∙ c.new.ensures.len))
+    let none : len (nodes_of c.new.result) ≡ 0 = ap (λ m. len m) c.new.ensures.empty ∙ len-empty order (List ℕ) in
+    (c.new.ensures.linked, omega (arith, none), counted_none c.no_counts.result (nodes_of c.new.result) c.no_counts.ensures none)

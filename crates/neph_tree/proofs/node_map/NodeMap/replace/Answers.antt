@@ -1,41 +1,34 @@
-use Rattle.std.proofs.Common.{◌≡◌, true, false, is_some, sym, ap, subst, ◌∙◌, arith}
-use Rattle.std.specs.Prelude.{not}
+use Rattle.std.proofs.Common.{◌≡◌, Option, Some, None, ap, ◌∙◌, arith}
+use Rattle.std.specs.Prelude.{IfNone, IfSome, IsSome, not}
 use Rattle.std.specs.FinMap as map
-use Rattle.std.specs.Map.{lookup}
-use Rattle.std.specs.BTreeMap.{is_at}
-use Rattle.neph_tree.specs.Nodes.{Nodes}
-use Rattle.neph_tree.specs.Entries.{shown}
-use Rattle.neph_tree.specs.Counts.{AreCounted}
-use Rattle.neph_tree.proofs.EntryLemmas.{order, set-shown, there_shown}
-use Rattle.neph_tree.proofs.CountLemmas.{counted_there}
+use Rattle.neph_tree.specs.NodeSlab.{nodes_of}
+use Rattle.neph_tree.specs.declared.node_slab.NodeSlab.{NodeSlab}
+use Rattle.neph_tree.proofs.CountLemmas.{counted_replaced}
 use Rattle.neph_tree.proofs.node_map.NodeMap.replace.Goals as goal
 
-pub returns-in_default-clause-tells : goal.returns-in_default-clause-tells
-returns-in_default-clause-tells c =
-    let es = c.self.inside.entries.entries in
-    let missing : map.contains_key (map.from_entries {R = order} (shown es)) c.args.path.now ≡ false = there_shown es c.args.path.now ∙ ap is_some (sym c.in_default.ensures.value) in
-    ap not (sym missing) ∙ ap (λ m. not (map.contains_key m c.args.path.now)) c.self.view_is
+unchanged : {X : Type 0} (back : Option X) (v : X) (old new : NodeSlab) → IfSome back (λ b. (b ≡ v) × (new ≡ old)) → IsSome back → nodes_of new ≡ nodes_of old
+unchanged None v old new h some = absurd (cc)
+unchanged (Some x) v old new h some = ap (λ t. nodes_of t) h.1
 
-pub invariant_of-self-2 : goal.invariant_of-self-2
-invariant_of-self-2 c =
-    let es = c.self.inside.entries.entries in
-    let path = c.args.path.now in
-    let holds = c.get_mut.follows.holds c.args.value in
-    let there : is_some (lookup (is_at (λ k. order path k.items)) es) ≡ true = ap is_some (sym c.in-Some.ensures.value) in
-    let Counted : Nodes → Type 0 = λ n. AreCounted c.self.inside.homes n in (
-      omega (arith, holds.2, c.self.invariant.0),
-      subst Counted (sym (set-shown es _ path c.args.value holds.0 there)) (counted_there c.self.inside.homes (map.from_entries {R = order} (shown es)) path c.args.value.items c.self.invariant.1 (there_shown es path ∙ there)),
-    )
+pub invariant_of-self : goal.invariant_of-self
+invariant_of-self c =
+    let old = c.self.inside.nodes in
+    let kept = counted_replaced c.replace.result c.self.inside.homes (nodes_of old) (nodes_of c.replace.new.self) c.args.path.now c.args.value.items c.replace.ensures.there (unchanged c.replace.result c.args.value old c.replace.new.self c.replace.ensures.missing) c.replace.ensures.tells c.self.invariant.2 in
+    (c.replace.ensures.linked, omega (arith, kept.0, c.self.invariant.1), kept.1)
+
+if_none : {X : Type 0} {P Q : Type 0} (o : Option X) → (P → Q) → IfNone o P → IfNone o Q
+if_none None f h = f h
+if_none (Some x) f h = h
+
+if_some : {X : Type 0} {P Q : X → Type 0} (o : Option X) → ((x : X) → P x → Q x) → IfSome o P → IfSome o Q
+if_some None f h = h
+if_some (Some x) f h = f x h
 
 pub returns-clause-there : goal.returns-clause-there
-returns-clause-there c =
-    let es = c.self.inside.entries.entries in
-    let path = c.args.path.now in
-    let there : is_some (lookup (is_at (λ k. order path k.items)) es) ≡ true = ap is_some (sym c.in-Some.ensures.value) in
-    set-shown es _ path c.args.value (c.get_mut.follows.holds c.args.value).0 there ∙ ap (λ m. map.insert m path c.args.value.items) c.self.view_is
+returns-clause-there c = if_none c.replace.result (λ e. e ∙ ap (λ m. map.insert m c.args.path.now c.args.value.items) c.self.view_is) c.replace.ensures.there
+
+pub returns-clause-missing : goal.returns-clause-missing
+returns-clause-missing c = if_some c.replace.result (λ x e. (e.0, ap (λ t. nodes_of t) e.1 ∙ c.self.view_is)) c.replace.ensures.missing
 
 pub returns-clause-tells : goal.returns-clause-tells
-returns-clause-tells c =
-    let es = c.self.inside.entries.entries in
-    let there : map.contains_key (map.from_entries {R = order} (shown es)) c.args.path.now ≡ true = there_shown es c.args.path.now ∙ ap is_some (sym c.in-Some.ensures.value) in
-    ap not (sym there) ∙ ap (λ m. not (map.contains_key m c.args.path.now)) c.self.view_is
+returns-clause-tells c = c.replace.ensures.tells ∙ ap (λ m. not (map.contains_key m c.args.path.now)) c.self.view_is

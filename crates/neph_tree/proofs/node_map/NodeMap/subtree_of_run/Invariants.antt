@@ -1,6 +1,0 @@
-use Rattle.std.proofs.Common.{◌≡◌, ◌++◌}
-use Rattle.neph_tree.specs.Entries.{shown}
-use Rattle.neph_tree.proofs.node_map.NodeMap.subtree_of_run.Given as goal
-
-abbrev pub invariant-loop-path : goal.invariant-loop-path
-invariant-loop-path l = l.nodes.items ++ shown l.path-iterator ≡ l.initial.nodes.items ++ shown l.initial.path-iterator
