@@ -25,10 +25,6 @@ behind-append (x ∷ p) q [] = refl
 behind-append (x ∷ p) q (y ∷ s) =
     elim (y == x) as (λ b. cond b (behind (p ++ q) s) None ≡ option_and_then (behind q) (cond b (behind p s) None)) [ true ↦ behind-append p q s | false ↦ refl ]
 
--- below `/`
-pub rest_below_root : (top path : List ℕ) → length top ≡ 1 → rest_below top path ≡ behind top path
-rest_below_root top path e = rw e refl
-
 pub rest_below_other : (top path : List ℕ) → (length top ≡ 1 → ⊥) → rest_below top path ≡ option_and_then (behind (slash ∷ [])) (behind top path)
 rest_below_other top path e = by (length top == 1) refl where
   by : (b : Bool) → length top == 1 ≡ b → behind (cond b top (top ++ slash ∷ [])) path ≡ option_and_then (behind (slash ∷ [])) (behind top path)

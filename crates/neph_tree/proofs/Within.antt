@@ -178,10 +178,6 @@ abbrev pub IsIn : List ℕ → List (List ℕ) → Type 0
 IsIn path [] = ⊥
 IsIn path (x ∷ xs) = (x ≡ path) ⊎ IsIn path xs
 
-pub IsIn-left : (path : List ℕ) (xs ys : List (List ℕ)) → IsIn path xs → IsIn path (xs ++ ys)
-IsIn-left path [] ys h = absurd h
-IsIn-left path (x ∷ xs) ys h = elim h [ inl e ↦ inl e | inr more ↦ inr (IsIn-left path xs ys more) ]
-
 pub IsIn-right : (path : List ℕ) (xs ys : List (List ℕ)) → IsIn path ys → IsIn path (xs ++ ys)
 IsIn-right path [] ys h = h
 IsIn-right path (x ∷ xs) ys h = inr (IsIn-right path xs ys h)

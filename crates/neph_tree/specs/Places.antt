@@ -1,16 +1,12 @@
 -- Where a path stands below another, and the paths of the domains.
 use Rattle.std.specs.Prelude.{◌≡◌, ◌<◌, true, drop, get_or, ◌==◌, ◌&&◌, ◌||◌, ◌∷◌, ◌++◌, ◌+◌, ◌/◌, ◌%◌, [], ℕ, Bool, not, List, Option, Some, None, length, map, is_some, nat_lt, nat_eq, codes, if◌then◌else◌}
-use Rattle.std.specs.List.{list_all, join_with_byte}
+use Rattle.std.specs.List.{list_all}
 use Rattle.std.specs.Cmp.Lexicographic.{pointwise}
 use Rattle.neph_base.specs.Path.{slash, is_path}
 
 -- the path without components
 abbrev pub root : List ℕ
 root = slash ∷ []
-
--- the path with these components
-abbrev pub path_of : List (List ℕ) → List ℕ
-path_of names = slash ∷ join_with_byte slash names
 
 -- what a text has behind a front, None where it begins otherwise
 abbrev pub behind : List ℕ → List ℕ → Option (List ℕ)
