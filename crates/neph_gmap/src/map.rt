@@ -20,7 +20,7 @@ pub struct GuestMap {
 }
 
 impl Model for GuestMap {
-    ghost use Rattle.std.specs.Prelude.{◌≡◌, ◌≤◌, vec_len};
+    ghost use Rattle.std.specs.Prelude.{◌≡◌, ◌≤◌, vec_len, vec_capacity};
     ghost use Rattle.neph_base.specs.declared.sizes.TheConstants.{MAX_FRAMES, MAX_PAGES};
     ghost use Rattle.neph_gmap.specs.GuestPages.{GuestPages};
 
@@ -33,7 +33,7 @@ impl Model for GuestMap {
 
     ghost invariant = { λ m. (vec_len m.vpns ≡ vec_len m.pages)
         × (vec_len m.pages ≤ MAX_PAGES)
-        × (vec_len m.homes ≡ MAX_FRAMES) };
+        × (MAX_FRAMES ≤ vec_capacity m.homes) };
 }
 
 impl GuestMap {
@@ -51,8 +51,7 @@ impl GuestMap {
             places.push(Page::Exposed)?;
             vpns.push(Vpns::new())?;
         }
-        let mut homes = Vec::new(alloc);
-        homes.resize(MAX_FRAMES, 0u16)?;
+        let homes = Vec::with_capacity(alloc, MAX_FRAMES)?;
         Ok(GuestMap {
             pages: places,
             vpns,
