@@ -24,3 +24,8 @@ pub mod Rooming
 pub mod HalfParts
 pub mod Telling
 pub mod Keeping
+pub mod Turning
+pub mod Handover
+pub mod Outgoing
+pub mod Incoming
+pub mod Returning

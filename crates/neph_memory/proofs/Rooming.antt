@@ -1,5 +1,5 @@
 -- How many entries the seat of a memory has.
-use Rattle.std.proofs.Common.{◌≡◌, ◌≢◌, ◌<◌, ◌≤◌, ◌+◌, ◌==◌, ◌||◌, ◌⊎◌, inl, inr, ℕ, zero, suc, Bool, true, false, List, [], ◌∷◌, length, if◌then◌else◌, is_some, Some, None, refl, sym, ap, subst, ◌∙◌, arith, eq-eqb, ne_eqb}
+use Rattle.std.proofs.Common.{◌≡◌, ◌≢◌, ◌<◌, ◌≤◌, ◌+◌, ◌==◌, ◌||◌, ◌⊎◌, inl, inr, ℕ, zero, suc, Bool, true, false, List, [], ◌∷◌, length, if◌then◌else◌, is_some, slice_get, Some, None, refl, sym, ap, subst, ◌∙◌, arith, eq-eqb, ne_eqb}
 use Rattle.std.specs.declared.option.Option.{Option}
 use Rattle.neph_pool.specs.declared.entry.Entry.{Entry}
 use Rattle.neph_pool.specs.Entries.{hold_at, is_here, is_entry, entry_count, without}
@@ -8,6 +8,7 @@ use Rattle.neph_pool.proofs.Entries.{hold_at-without, hold_at-without_other}
 use Rattle.neph_pool.proofs.Rows.{same_or_not, count_cons}
 use Rattle.neph_ptab.specs.Tables.{leaf_at, IsTable}
 use Rattle.neph_gmap.specs.declared.page.Page.{Page}
+use Rattle.neph_gmap.specs.declared.page.Page.TheVariants.{Local as At, Exposed as Away}
 use Rattle.neph_memory.specs.declared.own.Own.{Own}
 use Rattle.neph_memory.specs.Pages.{frame_of, frame_at}
 use Rattle.neph_memory.specs.Memory.{leaf_count_below, leaf_count, IsPageAt, IsSpareAt, IsMemory}
@@ -250,3 +251,31 @@ room_alike es fs root top n k b c room e h d = let same : leaf_count fs top ≡ 
 -- the same with one more leaf table
 pub room_more : (es fs : List (Option Entry)) (root top i n k b c : ℕ) → n + 3 + leaf_count es root ≤ b → k ≡ n → ((j : ℕ) → j < 512 → j ≢ i → leaf_at fs top j ≡ leaf_at es root j) → c ≡ b → k + 2 + leaf_count fs top ≤ c
 room_more es fs root top i n k b c room e h d = let more : leaf_count fs top ≤ leaf_count es root + 1 = leaves_more es fs root top i 512 h in omega (arith, room, e, more, d)
+
+away_length : (ps : List Page) (p : ℕ) → slice_get ps p ≡ Some Away → length (page_frames ps) + 1 ≤ length ps
+unfolding page_frames
+away_length [] p e = absurd (cc)
+away_length (At f ∷ ps) zero e = absurd (cc)
+away_length (Away ∷ ps) zero e = let b = page_length ps in omega (arith, b)
+away_length (x ∷ ps) (suc p) e = let a = add_length (frame_of (Some x)) (page_frames ps) in let b = away_length ps p e in let c = bit_small (is_some (frame_of (Some x))) in omega (arith, a, b, c)
+
+-- where a page is exposed, no more than without a spare
+pub entries_away : (es : List (Option Entry)) (root : ℕ) (o : Own) → IsMemory es root o → (p : ℕ) → slice_get o.map.pages p ≡ Some Away → entry_count es ≤ length o.map.pages + 1 + leaf_count es root
+entries_away es root o m p away =
+    let ps = page_frames o.map.pages in
+    let ls = add_some o.spare ps in
+    let all = covered (root ∷ leaf_frames es root 512 ls) es (λ g h. by g (m.made.only g h)) in
+    let a = leaf_length es root 512 ls in
+    let b = away_length o.map.pages p away in
+    let c = add_length o.spare ps in
+    let d = bit_small (is_some o.spare) in
+    omega (arith, all, a, b, c, d) where
+      by : (g : ℕ) → IsTable es root g ⊎ (IsPageAt o g ⊎ IsSpareAt o g) → IsAmong (root ∷ leaf_frames es root 512 (add_some o.spare (page_frames o.map.pages))) g
+      by g (inl (inl e)) = add_here (Some root) (leaf_frames es root 512 (add_some o.spare (page_frames o.map.pages))) g (ap Some (sym e))
+      by g (inl (inr t)) = add_more (Some root) (leaf_frames es root 512 (add_some o.spare (page_frames o.map.pages))) g (leaf_among es root 512 t.0 g (add_some o.spare (page_frames o.map.pages)) t.1 t.2)
+      by g (inr (inl q)) =
+          add_more (Some root) (leaf_frames es root 512 (add_some o.spare (page_frames o.map.pages))) g
+          (leaf_later es root 512 g (add_some o.spare (page_frames o.map.pages)) (add_more o.spare (page_frames o.map.pages) g (page_among o.map.pages q.0 g q.1)))
+      by g (inr (inr s)) =
+          add_more (Some root) (leaf_frames es root 512 (add_some o.spare (page_frames o.map.pages))) g
+          (leaf_later es root 512 g (add_some o.spare (page_frames o.map.pages)) (add_here o.spare (page_frames o.map.pages) g s))

@@ -6,3 +6,4 @@ pub mod Building
 pub mod Mapped
 pub mod OwnHalf
 pub mod Shared
+pub mod Exposed

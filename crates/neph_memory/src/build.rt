@@ -90,7 +90,8 @@ pub fn lead(own: &Own, p: Pfn, rw: bool) -> Walk
     }
 }
 
-fn lead_there(page: Page, marked: bool, p: Pfn, rw: bool) -> Walk
+/// The same where the page lies there.
+pub fn lead_there(page: Page, marked: bool, p: Pfn, rw: bool) -> Walk
     ensures { result ≡ lead_to (Some page) marked p rw }
 {
     match page {

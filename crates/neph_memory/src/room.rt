@@ -1,5 +1,5 @@
 // Room for the frames of a domain's end.
-ghost use Rattle.std.specs.Prelude.{◌≡◌, ◌≤◌, [], vec_capacity};
+ghost use Rattle.std.specs.Prelude.{◌≡◌, ◌≤◌, [], IfOk, vec_capacity};
 
 use neph_base::{FrameNo, MAX_PAGES, NoMemory, TABLE_ENTRIES};
 use std::alloc::Global;
@@ -28,7 +28,9 @@ impl Model for Room {
 
 impl Room {
     /// Makes the room.
-    pub fn new(alloc: Global) -> Result<Room, NoMemory> {
+    pub fn new(alloc: Global) -> Result<Room, NoMemory>
+        ensures empty { IfOk result (λ room. room ≡ []) }
+    {
         let frames = Vec::with_capacity(alloc, MAX_HELD)?;
         Ok(Room { frames })
     }
