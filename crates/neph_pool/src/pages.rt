@@ -62,8 +62,9 @@ impl Pages {
         ensures frames { frame_count self.new ≡ frame_count self.old }
     {
         let next = self.made.len();
-        let words = self.made[source].words;
-        self.made.push_reserved(Page { words });
+        self.made.push_reserved(Page {
+            words: self.made[source].words,
+        });
         self.places[f] = next as u16;
         next
     }
