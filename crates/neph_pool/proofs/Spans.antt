@@ -2,8 +2,8 @@
 use Rattle.std.proofs.Common.{◌≡◌, ◌+◌, ◌*◌, ◌-◌, ◌/◌, ◌%◌, ◌<◌, ◌≤◌, ℕ, zero, suc, true, List, [], ◌∷◌, ◌++◌, length, take, drop, set, get_or, refl, sym, ap, ◌∙◌, arith, length-append, length-drop, append_assoc}
 use Rattle.std.specs.Int.{w64, to_le_bytes, from_le_bytes}
 use Rattle.std.specs.declared.option.Option.{Option}
-use Rattle.std.proofs.Math.Seq.{take-add, drop-append-add}
-use Rattle.std.proofs.lemmas.List.{append-nil, take-append-drop, take-append-le, drop-append-le, drop-drop, take_at, length-take-le, get_or-drop}
+use Rattle.std.proofs.Math.Seq.{take-add, take-nil, drop-append-add}
+use Rattle.std.proofs.lemmas.List.{append-nil, take-append-drop, take-append-le, drop-append-le, drop-drop, drop-take, drop_all, drop-set-lt, take_at, take_more, take_more_set, length-take-le, get_or-drop}
 use Rattle.std.proofs.lemmas.Nat.{le_bytes_8}
 use Rattle.std.proofs.lemmas.Slice.{take-put_mid}
 use borrow.Rule.Slice.PartMut.{put_mid}
@@ -30,18 +30,17 @@ take_past [] ys at m e = ap (λ (k : ℕ). take k ys) (let k : at ≡ m = omega 
 take_past (x ∷ xs) ys zero m e = absurd (omega arith)
 take_past (x ∷ xs) ys (suc at) m e = ap (λ (zs : List ℕ). x ∷ zs) (take_past xs ys at m (omega arith))
 
--- bytes of the word i are bytes of the frame
-pub word_bytes : (ws : List ℕ) (i j at n : ℕ) → at ≡ 8 * i + j → i < length ws → j + n ≤ 8 → take n (drop j (to_le_bytes w64 (get_or ws i 0))) ≡ take n (drop at (bytes_of ws))
+-- the bytes of the word i are bytes of the frame
+pub word_bytes : (ws : List ℕ) (i at : ℕ) → at ≡ 8 * i → i < length ws → to_le_bytes w64 (get_or ws i 0) ≡ take 8 (drop at (bytes_of ws))
 unfolding bytes_of
-word_bytes [] i j at n e li lj = absurd (omega arith)
-word_bytes (w ∷ ws) zero j at n e li lj =
+word_bytes [] i at e li = absurd (omega arith)
+word_bytes (w ∷ ws) zero at e li =
     let b : List ℕ = to_le_bytes w64 w in
-    let k : at ≡ j = omega arith in
-    sym (ap (λ (m : ℕ). take n (drop m (b ++ bytes_of ws))) k ∙ ap (λ (xs : List ℕ). take n xs) (drop-append-le j b (bytes_of ws) (rw (eight w) (omega arith)))
-    ∙ take-append-le n (drop j b) (bytes_of ws) (omega (arith, length-drop j b, eight w)))
-word_bytes (w ∷ ws) (suc i) j at n e li lj =
-    word_bytes ws i j (at - 8) n (omega arith) (omega arith) lj
-    ∙ ap (λ (xs : List ℕ). take n xs) (sym (drop_past (to_le_bytes w64 w) (bytes_of ws) at (at - 8) (omega (arith, eight w))))
+    let k : at ≡ 0 = omega arith in
+    sym (ap (λ (m : ℕ). take 8 (drop m (b ++ bytes_of ws))) k ∙ take-append-le 8 b (bytes_of ws) (omega (arith, eight w)))
+word_bytes (w ∷ ws) (suc i) at e li =
+    word_bytes ws i (at - 8) (omega arith) (omega arith)
+    ∙ ap (λ (xs : List ℕ). take 8 xs) (sym (drop_past (to_le_bytes w64 w) (bytes_of ws) at (at - 8) (omega (arith, eight w))))
 
 -- bytes of the word i change
 over_first : (xs ys bs : List ℕ) (at : ℕ) → at + length bs ≤ length xs → with_bytes (xs ++ ys) at bs ≡ with_bytes xs at bs ++ ys
@@ -101,6 +100,20 @@ read_more buf part page at i n k h len old new =
     ∙ ap (λ (xs : List ℕ). take i (drop at page) ++ xs) (new ∙ ap (λ (xs : List ℕ). take n xs) (sym (drop-drop i at page)))
     ∙ sym (take-add i n (drop at page))
 
+take_take : (n m : ℕ) (xs : List ℕ) → n ≤ m → take n (take m xs) ≡ take n xs
+take_take n m [] h = ap (λ (xs : List ℕ). take n xs) (take-nil m)
+take_take zero zero (x ∷ xs) h = refl
+take_take zero (suc m) (x ∷ xs) h = refl
+take_take (suc n) zero (x ∷ xs) h = absurd (omega arith)
+take_take (suc n) (suc m) (x ∷ xs) h = ap (λ (ys : List ℕ). x ∷ ys) (take_take n m xs (omega arith))
+
+-- n bytes of those that were read, from an offset on
+pub read_part : (buf page : List ℕ) (at i n m : ℕ) → i + n ≤ m → take m buf ≡ take m (drop at page) → take n (drop i buf) ≡ take n (drop (at + i) page)
+read_part buf page at i n m h e =
+    sym (drop-take i n buf)
+    ∙ ap (λ (xs : List ℕ). drop i xs) (sym (take_take (i + n) m buf h) ∙ ap (λ (xs : List ℕ). take (i + n) xs) e ∙ take_take (i + n) m (drop at page) h)
+    ∙ drop-take i n (drop at page) ∙ ap (λ (xs : List ℕ). take n xs) (drop-drop i at page)
+
 -- a frame's entries after its words changed
 pub settled : (es fs : List (Option Entry)) (f : ℕ) (ws : List ℕ) → fs ≡ with_words es f ws → is_here (hold_at es f) ≡ true → fs ≡ with_words es f (words_at fs f)
 settled es fs f ws e here = e ∙ ap (λ (xs : List ℕ). with_words es f xs) (sym (ap (λ (xs : List (Option Entry)). words_at xs f) e ∙ words_at-with_words es f ws here))
@@ -147,14 +160,29 @@ small_take (suc n) (x ∷ xs) h (suc i) = small_take n xs (λ j. h (suc j)) i
 small_drop : (n : ℕ) (xs : List ℕ) → AreBytes xs → AreBytes (drop n xs)
 small_drop n xs h i = rw (get_or-drop n xs i 0) (h (n + i))
 
--- the bytes of a word after some have changed
-pub word_after : (w v j k : ℕ) (word part bs : List ℕ) → word ≡ to_le_bytes w64 w → part ≡ bs → k ≡ length bs → j + length bs ≤ 8 → ((i : ℕ) → get_or bs i 0 < 256)
-    → v ≡ from_le_bytes w64 (put_mid j k word part) → to_le_bytes w64 v ≡ with_bytes (to_le_bytes w64 w) j bs
-word_after w v j k word part bs is same count within small val =
+set_one : (xs : List ℕ) (i x : ℕ) → i < length xs → set xs i x ≡ with_bytes xs i (x ∷ [])
+set_one xs i x h =
+    sym (take-append-drop (i + 1) (set xs i x)) ∙ ap (λ (ys : List ℕ). ys ++ drop (i + 1) (set xs i x)) (take_more_set xs i x h)
+    ∙ ap (λ (ys : List ℕ). (take i xs ++ x ∷ []) ++ ys) (drop-set-lt (i + 1) xs i x (omega arith))
+
+-- one byte more of a word
+pub lane_more : (word bs now : List ℕ) (j i d : ℕ) → length now ≡ length word → now ≡ with_bytes word j (take i bs) → i < length bs → j + length bs ≤ length word → set now (j + i) (get_or bs i d) ≡ with_bytes word j (take (i + 1) bs)
+lane_more word bs now j i d long is lt within =
+    let x : ℕ = get_or bs i d in
+    let len : length (take i bs) ≡ i = length-take-le i bs (omega arith) in
+    set_one now (j + i) x (omega arith) ∙ ap (λ (xs : List ℕ). with_bytes xs (j + i) (x ∷ [])) is
+    ∙ over_next word (take i bs) (x ∷ []) j (j + i) (omega arith) (omega arith) ∙ ap (λ (xs : List ℕ). with_bytes word j xs) (sym (take_more bs i d lt))
+
+-- all bytes of a word are new
+pub all_over : (w j : ℕ) (bs : List ℕ) → j ≡ 0 → length bs ≡ 8 → with_bytes (to_le_bytes w64 w) j bs ≡ bs
+all_over w j bs none long =
     let b : List ℕ = to_le_bytes w64 w in
-    let put : put_mid j k word part ≡ with_bytes b j bs
-    = ap (λ (xs : List ℕ). put_mid j k xs part) is ∙ ap (λ (xs : List ℕ). put_mid j k b xs) same ∙ ap (λ (m : ℕ). put_mid j m b bs) count
-    ∙ ap (λ (xs : List ℕ). take j b ++ (bs ++ xs)) (drop-drop (length bs) j b) ∙ sym (append_assoc (take j b) bs (drop (j + length bs) b)) in
+    ap (λ (k : ℕ). with_bytes b k bs) none ∙ ap (λ (xs : List ℕ). bs ++ xs) (drop_all (0 + length bs) b (omega (arith, eight w))) ∙ append-nil bs
+
+-- the bytes of a word after some have changed
+pub word_after : (w v j : ℕ) (word bs : List ℕ) → word ≡ with_bytes (to_le_bytes w64 w) j bs → j + length bs ≤ 8 → ((i : ℕ) → get_or bs i 0 < 256) → v ≡ from_le_bytes w64 word → to_le_bytes w64 v ≡ with_bytes (to_le_bytes w64 w) j bs
+word_after w v j word bs is within small val =
+    let b : List ℕ = to_le_bytes w64 w in
     let l1 = length-append (take j b ++ bs) (drop (j + length bs) b) in
     let l2 = length-append (take j b) bs in
     let l3 = length-take-le j b (rw (eight w) (omega arith)) in
@@ -162,4 +190,4 @@ word_after w v j k word part bs is same count within small val =
     let l5 = eight w in
     le_bytes_8 (with_bytes b j bs) v (omega arith)
     (small_both (take j b ++ bs) (drop (j + length bs) b) (small_both (take j b) bs (small_take j b (byte_small w)) small) (small_drop (j + length bs) b (byte_small w)))
-    (val ∙ ap (from_le_bytes w64) put)
+    (val ∙ ap (from_le_bytes w64) is)

@@ -1,5 +1,6 @@
 // The bytes of a frame, little-endian in its words.
 ghost use Rattle.std.specs.Prelude.{◌≡◌, ◌+◌, ◌%◌, ◌<◌, ◌≤◌, length, take, drop};
+ghost use Rattle.std.specs.Int.{w64, to_le_bytes};
 ghost use Rattle.neph_pool.specs.Bytes.{bytes_at, with_bytes};
 ghost use Rattle.neph_pool.specs.Entries.{with_words, words_at, IsHeldAt, IsSoleAt};
 ghost use Rattle.neph_pool.specs.World.{World, IsSeat, Moves, SameCounts};
@@ -7,28 +8,16 @@ ghost use Rattle.neph_pool.specs.World.{World, IsSeat, Moves, SameCounts};
 use crate::pool::FramePool;
 use neph_base::{FrameNo, PAGE_BYTES, Piece};
 
-// Reads bytes that lie within one word of a frame.
-fn read_in_word<P: FramePool>(
-    pool: &mut P,
-    seat: &mut P::Seat,
-    f: FrameNo,
-    at: usize,
-    into: &mut [u8],
-)
-    requires seat { IsSeat P.world pool.old seat.old }
-    requires frame { IsHeldAt (P.world.entries pool.old seat.old) f }
-    requires at { at < PAGE_BYTES }
-    requires within { at % 8 + length into.old ≤ 8 }
-    ensures bytes { into.new ≡ take (length into.old)
-        (drop at (bytes_at (P.world.entries pool.old seat.old) f)) }
-    ensures entries { P.world.entries pool.new seat.new ≡ P.world.entries pool.old seat.old }
-    ensures met { P.world.met seat.new ≡ P.world.met seat.old }
-    ensures moves { Moves P.world pool.old seat.old pool.new seat.new }
-    ensures counts { SameCounts P.world pool.old pool.new }
+// A word with these bytes from a lane on.
+fn with_lanes(old: u64, lane: usize, bytes: &[u8]) -> u64
+    requires { lane + length bytes.now ≤ 8 }
+    ensures { to_le_bytes w64 result ≡ with_bytes (to_le_bytes w64 old) lane bytes.now }
 {
-    let word = pool.read(seat, f, (at / 8) as u16).to_le_bytes();
-    let lane = at % 8;
-    into.copy_from_slice(&word[lane..lane + into.len()]);
+    let mut word = old.to_le_bytes();
+    for i in 0..bytes.len() {
+        word[lane + i] = bytes[i];
+    }
+    u64::from_le_bytes(word)
 }
 
 // Writes bytes that lie within one word of a frame, and leaves the word's others.
@@ -52,10 +41,13 @@ fn write_in_word<P: FramePool>(
     ensures moves { Moves P.world pool.old seat.old pool.new seat.new }
     ensures counts { SameCounts P.world pool.old pool.new }
 {
-    let mut word = pool.read(seat, f, (at / 8) as u16).to_le_bytes();
-    let lane = at % 8;
-    word[lane..lane + bytes.len()].copy_from_slice(bytes);
-    pool.write(seat, f, (at / 8) as u16, u64::from_le_bytes(word));
+    let w = (at / 8) as u16;
+    if let Some(whole) = bytes.as_array::<8>() {
+        pool.write(seat, f, w, u64::from_le_bytes(*whole));
+        return;
+    }
+    let old = pool.read(seat, f, w);
+    pool.write(seat, f, w, with_lanes(old, at % 8, bytes));
 }
 
 /// The bytes of a frame from this offset on, 1 to 64 of them, none past the frame's end.
@@ -77,16 +69,15 @@ pub fn read_bytes<P: FramePool>(
     ensures moves { Moves P.world pool.old seat.old pool.new seat.new }
     ensures counts { SameCounts P.world pool.old pool.new }
 {
-    let mut bytes = [0u8; 64];
-    let count = len as usize;
-    let mut done = 0;
-    while done < count {
-        let place = at as usize + done;
-        let n = (8 - place % 8).min(count - done);
-        read_in_word(pool, seat, f, place, &mut bytes[done..done + n]);
-        done += n;
+    let first = at / 8;
+    let lane = (at % 8) as usize;
+    let end = lane + len as usize;
+    let mut bytes = [0u8; 72];
+    for i in 0..end.div_ceil(8) {
+        let word = pool.read(seat, f, first + i as u16).to_le_bytes();
+        bytes[8 * i..8 * i + 8].copy_from_slice(&word);
     }
-    Piece::new(&bytes[..count]).unwrap()
+    Piece::new(&bytes[lane..end]).unwrap()
 }
 
 /// Writes bytes into a frame from this offset on, none past its end. The seat has the frame to
