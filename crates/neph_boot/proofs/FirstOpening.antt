@@ -1,10 +1,10 @@
 -- A machine before its first domain line: no domain stands, and each frame is free.
-use Rattle.std.proofs.Common.{◌≡◌, ℕ, zero, suc, ◌<◌, ◌≤◌, true, List, [], ◌∷◌, length, map, replicate, refl, sym, ap, subst, ◌∙◌, arith}
+use Rattle.std.proofs.Common.{◌≡◌, ℕ, zero, suc, ◌<◌, ◌≤◌, true, List, [], ◌∷◌, length, map, replicate, reverse, refl, sym, ap, subst, ◌∙◌, arith}
 use Rattle.std.specs.Prelude.{is_some}
 use Rattle.std.specs.List.{range_with_len}
 use Rattle.std.specs.FinMap as fm
 use Rattle.std.specs.declared.option.Option.{Option}
-use Rattle.std.proofs.lemmas.List.{length-replicate}
+use Rattle.std.proofs.lemmas.List.{length-replicate, length-reverse}
 use Rattle.std.proofs.lemmas.List.FromFn.{length-range_with_len}
 use Rattle.neph_model.specs.Machine.{Exposed}
 use Rattle.neph_model.specs.WellFormed.{IsWellFormed}
@@ -39,7 +39,7 @@ none_shown es = map_repeated (page_map es) 64 [] ∙ ap (λ (e : Exposed). repli
 not_domain : {Pool Seat : Type 0} (l : Live Pool Seat) → Empty ≡ Domain l → ⊥
 not_domain l e = cc
 
-module _ {Pool Seat : Type 0} (W : World Pool Seat) (m : Machine Pool Seat) (well : IsWellFormed m.script) (lists : m.hv.heap.stock ≡ record no_lists { free = range_with_len 0 m.script.frames }) (empty : m.places.items ≡ replicate 64 Empty) where
+module _ {Pool Seat : Type 0} (W : World Pool Seat) (m : Machine Pool Seat) (well : IsWellFormed m.script) (lists : m.hv.heap.stock ≡ record no_lists { free = reverse (range_with_len 0 m.script.frames) }) (empty : m.places.items ≡ replicate 64 Empty) where
   nothing_at : (id : ℕ) → place_at id m.places.items ≡ Empty
   nothing_at id = ap (place_at id) empty ∙ repeated 64 id Empty
 
@@ -67,5 +67,5 @@ module _ {Pool Seat : Type 0} (W : World Pool Seat) (m : Machine Pool Seat) (wel
     marked = λ id l at. absurd (not_domain l (sym (nothing_at id) ∙ at));
     aside = ap (λ (l : Lists). l.aside) lists;
     pages = ap (λ (l : Lists). pages_in (W.entries m.pool m.hv.heap.seat) l.exposed) lists ∙ none_shown (W.entries m.pool m.hv.heap.seat);
-    room = let free = ap (λ (l : Lists). length l.free) lists ∙ length-range_with_len 0 m.script.frames in let r = well.room in omega (arith, free, r);
+    room = let free = ap (λ (l : Lists). length l.free) lists ∙ length-reverse (range_with_len 0 m.script.frames) ∙ length-range_with_len 0 m.script.frames in let r = well.room in omega (arith, free, r);
   }

@@ -1,7 +1,8 @@
 -- How often lists name a number.
-use Rattle.std.proofs.Common.{◌≡◌, ◌≢◌, ℕ, zero, suc, ◌+◌, ◌<◌, ◌≤◌, ◌==◌, List, [], ◌∷◌, ◌++◌, length, take, drop, set, get_or, refl, sym, ap, ◌∙◌, arith, eq-eqb, ne_eqb, if◌then◌else◌, inl, inr}
+use Rattle.std.proofs.Common.{◌≡◌, ◌≢◌, ℕ, zero, suc, ◌+◌, ◌<◌, ◌≤◌, ◌==◌, List, [], ◌∷◌, ◌++◌, length, take, drop, reverse, set, get_or, refl, sym, ap, ◌∙◌, arith, eq-eqb, ne_eqb, if◌then◌else◌, inl, inr}
 use Rattle.std.specs.List.{sum_by, flat_map, range_with_len}
 use Rattle.std.proofs.lemmas.List.Sums.{sum_by-cons, sum_by-append, sum_by-set, sum_by_more, sum_by-take-le, sum_by-take-drop, get_or-le-sum_by}
+use Rattle.std.proofs.lemmas.List.Sorted.{sum_by-IsPermutation, IsPermutation-reverse}
 use Rattle.neph_pool.proofs.Rows.{same_or_not}
 use Rattle.neph_heap.specs.Holds.{times}
 
@@ -110,12 +111,16 @@ range_past : (f a n : ℕ) → a + n ≤ f → times f (range_with_len a n) ≡ 
 range_past f a zero le = refl
 range_past f a (suc n) le = omega (arith, times_cons f a (range_with_len (a + 1) n), one_else f a (λ e. omega arith), range_past f (a + 1) n (omega arith))
 
--- the numbers below n are each named once
-pub range_in : (f n : ℕ) → f < n → times f (range_with_len 0 n) ≡ 1
-range_in f n lt = range_from f 0 n (omega arith) (omega arith)
+times_reverse : (f : ℕ) (xs : List ℕ) → times f (reverse xs) ≡ times f xs
+unfolding one_at
+times_reverse f xs = sum_by-IsPermutation (one_at f) xs (reverse xs) (IsPermutation-reverse xs)
 
-pub range_out : (f n : ℕ) → n ≤ f → times f (range_with_len 0 n) ≡ 0
-range_out f n le = range_past f 0 n (omega arith)
+-- the numbers below n, the highest first, are each named once
+pub down_in : (f n : ℕ) → f < n → times f (reverse (range_with_len 0 n)) ≡ 1
+down_in f n lt = times_reverse f (range_with_len 0 n) ∙ range_from f 0 n (omega arith) (omega arith)
+
+pub down_out : (f n : ℕ) → n ≤ f → times f (reverse (range_with_len 0 n)) ≡ 0
+down_out f n le = times_reverse f (range_with_len 0 n) ∙ range_past f 0 n (omega arith)
 
 pub range_once : (f a n : ℕ) → times f (range_with_len a n) ≤ 1
 range_once f a zero = omega arith

@@ -1,5 +1,5 @@
 -- The heap after a change.
-use Rattle.std.proofs.Common.{◌≡◌, ◌≢◌, ℕ, zero, suc, ◌+◌, ◌<◌, ◌≤◌, ◌==◌, ◌&&◌, ◌||◌, not, if◌then◌else◌, Bool, true, false, List, [], ◌∷◌, ◌++◌, length, length-set, length-append, replicate, get_or, set, Some, None, refl, sym, ap, ◌∙◌, subst, arith, inl, inr, ◌⊎◌, ne_eqb}
+use Rattle.std.proofs.Common.{◌≡◌, ◌≢◌, ℕ, zero, suc, ◌+◌, ◌<◌, ◌≤◌, ◌==◌, ◌&&◌, ◌||◌, not, if◌then◌else◌, Bool, true, false, List, [], ◌∷◌, ◌++◌, length, reverse, length-set, length-append, replicate, get_or, set, Some, None, refl, sym, ap, ◌∙◌, subst, arith, inl, inr, ◌⊎◌, ne_eqb}
 use Rattle.std.specs.List.{flat_map, range_with_len, sum_by}
 use Rattle.std.proofs.lemmas.List.Concat.{length-flat_map}
 use Rattle.std.proofs.lemmas.List.Sums.{sum_by-cons}
@@ -21,7 +21,7 @@ use Rattle.neph_heap.specs.declared.exposed_frame.ExposedFrame.{ExposedFrame}
 use Rattle.neph_heap.specs.Lists.{Lists, no_lists, frames_of, exposed_of, aside_of, frame_in, exposed_frames, aside_frames, exposed_count, aside_count}
 use Rattle.neph_heap.specs.Holds.{times, HasAt, Has, HoldsAmong}
 use Rattle.neph_heap.specs.Heap.{ArePages, IsHeap, IsFilled, own_frames}
-use Rattle.neph_heap.proofs.Counting.{few_of, times_append, times_set, times_in, range_in, range_out}
+use Rattle.neph_heap.proofs.Counting.{few_of, times_append, times_set, times_in, down_in, down_out}
 use Rattle.neph_heap.proofs.Among.{among_times, times_among, times_none, distinct_of}
 use Rattle.neph_heap.proofs.Steps.{nat_by, has_once, has_zero, has_sole, has_few, has_same, has_retaken, has_handed, has_released, has_joined}
 use Rattle.neph_heap.proofs.Maps.{frame_named}
@@ -167,7 +167,7 @@ sums [] = refl
 sums (xs ∷ xss) = omega (arith, sum_by-cons (λ (ys : List ExposedFrame). length (frames_of ys)) xs xss, sum_by-cons (λ (ys : List ExposedFrame). length ys) xs xss, length-map xs (λ (x : ExposedFrame). x.frame), sums xss)
 
 module _ {Pool Seat : Type 0} (W : World Pool Seat) where
-  pub start_heap : (p : Pool) (s : Seat) (n : ℕ) (l : Lists) → W.fits p s → W.names s 0 ≡ true → W.frames p ≡ n → n ≤ 16384 → IsShaped (W.frames p) (W.entries p s) → ((f : ℕ) → f < n → hold_at (W.entries p s) f ≡ Some Zero) → l ≡ record no_lists { free = range_with_len 0 n } → IsHeap W p s l []
+  pub start_heap : (p : Pool) (s : Seat) (n : ℕ) (l : Lists) → W.fits p s → W.names s 0 ≡ true → W.frames p ≡ n → n ≤ 16384 → IsShaped (W.frames p) (W.entries p s) → ((f : ℕ) → f < n → hold_at (W.entries p s) f ≡ Some Zero) → l ≡ record no_lists { free = reverse (range_with_len 0 n) } → IsHeap W p s l []
   start_heap p s n l fits first count few shape kept is =
       subst (λ (k : Lists). IsHeap W p s k []) (sym is) (record {
         fits = fits;
@@ -182,8 +182,8 @@ module _ {Pool Seat : Type 0} (W : World Pool Seat) where
               let o0 : times f (aside_frames (replicate 64 [])) ≡ 0 = ap (λ (xs : List ℕ). times f xs) (no_aside 64) in
               let own : times f (own_frames no_lists []) ≡ 0 = omega (arith, times_own f no_lists [], p0, o0) in
               elim (lt_or f n) [
-                | inl lt ↦ rw (kept f lt, own, range_in f n lt) (refl, refl)
-                | inr le ↦ rw (hold_past (W.entries p s) f (omega (arith, shape.places, count, le)), own, range_out f n le) refl
+                | inl lt ↦ rw (kept f lt, own, down_in f n lt) (refl, refl)
+                | inr le ↦ rw (hold_past (W.entries p s) f (omega (arith, shape.places, count, le)), own, down_out f n le) refl
               ];
         };
       })

@@ -1,5 +1,5 @@
 // The hypervisor's frames.
-ghost use Rattle.std.specs.Prelude.{◌≡◌, ◌<◌, ◌≤◌, ◌++◌, ◌↔◌, ℕ, [], true, IsTrue, IfOk, MatchOption, option_to_list, length};
+ghost use Rattle.std.specs.Prelude.{◌≡◌, ◌<◌, ◌≤◌, ◌++◌, ◌↔◌, ℕ, [], true, IsTrue, IfOk, MatchOption, option_to_list, length, reverse};
 ghost use Rattle.std.specs.List.{range_with_len};
 ghost use Rattle.neph_pool.specs.Entries.{IsZeroAt};
 ghost use Rattle.neph_pool.specs.World.{World, Moves};
@@ -25,7 +25,8 @@ pub struct Heap<P: FramePool> {
 }
 
 impl<P: FramePool> Heap<P> {
-    /// All frames are free. The seat has every name, and keeps every frame of the pool.
+    /// All frames are free, the lowest at the list's end, so that it is the next to be taken. The
+    /// seat has every name, and keeps every frame of the pool.
     pub fn start(alloc: Global, _pool: &P, seat: P::Seat, frames: u32) -> Result<Heap<P>, NoMemory>
         requires fits { P.world.fits _pool.now seat }
         requires names { (d : ℕ) → d < 64 → P.world.names seat d ≡ true }
@@ -35,7 +36,7 @@ impl<P: FramePool> Heap<P> {
         ensures heap { IfOk result (λ h. IsHeap P.world _pool.now h.seat h.stock []) }
         ensures seat { IfOk result (λ h. h.seat ≡ seat) }
         ensures lists { IfOk result (λ h. h.stock
-            ≡ record no_lists { free = range_with_len 0 frames }) }
+            ≡ record no_lists { free = reverse (range_with_len 0 frames) }) }
     {
         let mut stock = Stock::new(alloc)?;
         stock.fill(frames as usize);

@@ -28,7 +28,7 @@ impl Model for Stock {
 }
 
 impl Stock {
-    ghost use Rattle.std.specs.Prelude.{◌≡◌, ◌≤◌, ◌<◌, ◌+◌, ◌-◌, ◌++◌, [], IfOk, MatchOption, option_to_list, length, take, drop, slice_set, slice_index_or, vec_capacity, vec_len};
+    ghost use Rattle.std.specs.Prelude.{◌≡◌, ◌≤◌, ◌<◌, ◌+◌, ◌-◌, ◌++◌, [], IfOk, MatchOption, option_to_list, length, take, drop, reverse, slice_set, slice_index_or, vec_capacity, vec_len};
     ghost use Rattle.std.specs.List.{range_with_len};
     ghost use Rattle.neph_heap.specs.Lists.{Lists, no_lists, exposed_of, aside_of, frame_in, frames_of, exposed_count, aside_count};
 
@@ -172,13 +172,15 @@ impl Stock {
         mem::replace(&mut self.exposed[id.get() as usize], pages)
     }
 
-    // Lets the first so many frames of the machine be free, where none is.
+    // Lets the first so many frames of the machine be free, where none is. The lowest one lies at
+    // the list's end, so that it is the next to be taken.
     pub(crate) fn fill(&mut self, count: usize)
         requires none { self.old.free ≡ [] }
         requires few { count ≤ MAX_FRAMES }
-        ensures { self.new ≡ record self.old { free = range_with_len 0 count } }
+        ensures { self.new ≡ record self.old { free = reverse (range_with_len 0 count) } }
     {
-        for f in 0..count {
+        for i in 0..count {
+            let f = count - 1 - i;
             self.free.push_reserved(FrameNo::new(f as u32).unwrap());
         }
     }
