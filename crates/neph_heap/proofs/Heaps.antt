@@ -372,25 +372,28 @@ module _ {Pool Seat : Type 0} (W : World Pool Seat) where
       let e : length (flat_map (λ (ys : List ℕ). ys) l.aside) ≡ aside_count l = length-flat_map (λ (ys : List ℕ). ys) l.aside in
       omega (arith, few, a, b, d, e, h.few)
 
-  -- loose frames become the exposed pages of a domain that had none
-  pub heap_laid : (p : Pool) (s : Seat) (l : Lists) (id : ℕ) (born : List ExposedFrame) (xs : List ℕ) → IsHeap W p s l xs → id < 64 → exposed_of id l ≡ [] → frames_of born ≡ xs → ArePages born → IsHeap W p s (record l { exposed = set l.exposed id born }) []
+  -- a domain has other exposed pages, and other frames are loose, but all in all the same frames
+  pub heap_relisted : (p : Pool) (s : Seat) (l : Lists) (id : ℕ) (new : List ExposedFrame) (loose more : List ℕ) → IsHeap W p s l loose → id < 64 → ((f : ℕ) → times f (frames_of new) + times f more ≡ times f (frames_of (exposed_of id l)) + times f loose) → ArePages new → IsHeap W p s (record l { exposed = set l.exposed id new }) more
   unfolding exposed_frames
-  heap_laid p s l id born xs h lt none frames fine =
-      let m : Lists = record l { exposed = set l.exposed id born } in
+  heap_relisted p s l id new loose more h lt same fine =
+      let m : Lists = record l { exposed = set l.exposed id new } in
       let fit : id < length l.exposed = omega (arith, lt, h.domains) in record {
         fits = h.fits;
         first = h.first;
         few = h.few;
-        domains = length-set l.exposed id born ∙ h.domains;
+        domains = length-set l.exposed id new ∙ h.domains;
         children = h.children;
         pages = λ i. elim (same_or_not i id) [
-          | inl e ↦ subst ArePages (sym (ap (λ (k : ℕ). get_or (set l.exposed id born) k []) e ∙ get_or-set_same l.exposed id born [] fit)) fine
-          | inr n ↦ subst ArePages (sym (get_or-set_other l.exposed id i born [] n)) (h.pages i)
+          | inl e ↦ subst ArePages (sym (ap (λ (k : ℕ). get_or (set l.exposed id new) k []) e ∙ get_or-set_same l.exposed id new [] fit)) fine
+          | inr n ↦ subst ArePages (sym (get_or-set_other l.exposed id i new [] n)) (h.pages i)
         ];
-        has = has_same (W.entries p s) (W.entries p s) [] (own_frames l xs) l.free (own_frames m []) l.free h.has (λ f. refl)
-            (λ f.
-            let was = ap (λ (ys : List ExposedFrame). times f (frames_of ys)) none in
-            let come = ap (λ (ys : List ℕ). times f ys) frames in
-            omega (arith, times_own f l xs, times_own f m [], times_set f frames_of l.exposed id born [] fit, was, come))
+        has = has_same (W.entries p s) (W.entries p s) [] (own_frames l loose) l.free (own_frames m more) l.free h.has (λ f. refl)
+            (λ f. omega (arith, times_own f l loose, times_own f m more, times_set f frames_of l.exposed id new [] fit, same f))
             (λ f. refl);
       }
+
+  -- loose frames become the exposed pages of a domain that had none
+  pub heap_laid : (p : Pool) (s : Seat) (l : Lists) (id : ℕ) (born : List ExposedFrame) (xs : List ℕ) → IsHeap W p s l xs → id < 64 → exposed_of id l ≡ [] → frames_of born ≡ xs → ArePages born → IsHeap W p s (record l { exposed = set l.exposed id born }) []
+  heap_laid p s l id born xs h lt none frames fine =
+      heap_relisted p s l id born xs [] h lt
+      (λ f. let was = ap (λ (ys : List ExposedFrame). times f (frames_of ys)) none in let come = ap (λ (ys : List ℕ). times f ys) frames in omega (arith, was, come)) fine

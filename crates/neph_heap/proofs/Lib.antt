@@ -9,3 +9,5 @@ pub mod Maps
 pub mod Spans
 pub mod Filled
 pub mod Spare
+pub mod Loose
+pub mod Listing

@@ -21,13 +21,13 @@ use Rattle.neph_heap.specs.Pages.{page_in, page_map, pages_in}
 use Rattle.neph_heap.proofs.Counting.{one_same, times_cons, times_append, times_in}
 use Rattle.neph_heap.proofs.Shown.{page_map_same, pages_same}
 
-frame_yes : (q : ℕ) (x : ExposedFrame) (xs : List ExposedFrame) → x.pfn ≡ q → frame_in q (x ∷ xs) ≡ Some x.frame
+pub frame_yes : (q : ℕ) (x : ExposedFrame) (xs : List ExposedFrame) → x.pfn ≡ q → frame_in q (x ∷ xs) ≡ Some x.frame
 frame_yes q x xs e = rw (eq-eqb x.pfn q e) refl
 
-frame_no : (q : ℕ) (x : ExposedFrame) (xs : List ExposedFrame) → x.pfn ≢ q → frame_in q (x ∷ xs) ≡ frame_in q xs
+pub frame_no : (q : ℕ) (x : ExposedFrame) (xs : List ExposedFrame) → x.pfn ≢ q → frame_in q (x ∷ xs) ≡ frame_in q xs
 frame_no q x xs n = rw (ne_eqb x.pfn q n) refl
 
-some_same : (a b : ℕ) → Some a ≡ Some b → a ≡ b
+pub some_same : (a b : ℕ) → Some a ≡ Some b → a ≡ b
 some_same a b e = ap (λ (o : Option ℕ). unwrap_or o 0) e
 
 -- a page's frame is one of their frames
@@ -54,7 +54,7 @@ frame_twice q p f (x ∷ xs) ne a b = elim (same_or_not x.pfn q) [
   ]
 ]
 
-find_in : (es : List (Option Entry)) (xs : List ExposedFrame) (q : ℕ) → fm.find nat_cmp q (map (page_in es) xs) ≡ option_map (λ f. bytes_at es f) (frame_in q xs)
+pub find_in : (es : List (Option Entry)) (xs : List ExposedFrame) (q : ℕ) → fm.find nat_cmp q (map (page_in es) xs) ≡ option_map (λ f. bytes_at es f) (frame_in q xs)
 find_in es [] q = refl
 find_in es (x ∷ xs) q = elim (same_or_not x.pfn q) [
   | inl s ↦ rw (unsigned_tied q x.pfn, eq-eqb q x.pfn (sym s), eq-eqb x.pfn q s) refl

@@ -1,5 +1,5 @@
 -- What a seat has after some of its frames changed.
-use Rattle.std.proofs.Common.{◌≡◌, ℕ, zero, suc, ◌+◌, ◌<◌, ◌≤◌, true, List, [], ◌∷◌, ◌++◌, length, get_or, Some, None, refl, sym, ap, arith}
+use Rattle.std.proofs.Common.{◌≡◌, ℕ, zero, suc, ◌+◌, ◌<◌, ◌≤◌, true, List, [], ◌∷◌, ◌++◌, length, get_or, Some, None, refl, sym, ap, subst, arith}
 use Rattle.std.specs.declared.option.Option.{Option}
 use Rattle.neph_pool.specs.declared.entry.Entry.{Entry}
 use Rattle.neph_pool.specs.declared.entry.Hold.{Hold}
@@ -70,6 +70,14 @@ pub has_retaken : (es fs : List (Option Entry)) (part p o k o' k' : List ℕ) �
 has_retaken es fs part p o k o' k' has now left come =
     has_among es fs part (Some Sole) p o k p o' k' has now (λ f z. (refl, omega (arith, come f), omega (arith, left f)))
     (λ f lt. let at = at_kept (hold_at es f) (times f p) (times f o) (times f k) (has.each f) (omega (arith, left f)) in (omega (arith, at.1, at.2, left f, come f), omega (arith, at.2, left f)))
+
+-- frames that the seat had nothing of come to it
+pub has_taken : (es fs : List (Option Entry)) (part p o k o' : List ℕ) → Has es p o k → HoldsAmong part (Some Sole) es fs → ((f : ℕ) → times f part ≤ 1) → ((f : ℕ) → 0 < times f part → hold_at es f ≡ None) → ((f : ℕ) → times f o' ≡ times f part + times f o) → Has fs p o' k
+has_taken es fs part p o k o' has now once none come =
+    has_among es fs part (Some Sole) p o k p o' k has now (λ f z. (refl, omega (arith, come f, z), refl))
+    (λ f lt.
+    let at : times f p + times f o + times f k ≡ 0 = subst (λ (h : Option Hold). HasAt h (times f p) (times f o) (times f k)) (none f lt) (has.each f) in
+    (omega (arith, at, lt, once f, come f), omega (arith, at)))
 
 -- frames of the seat's own go away
 pub has_handed : (es fs : List (Option Entry)) (part p o k o' : List ℕ) → Has es p o k → HoldsAmong part None es fs → ((f : ℕ) → times f o ≡ times f part + times f o') → Has fs p o' k

@@ -4,3 +4,4 @@ pub mod Holds
 pub mod Pages
 pub mod Heap
 pub mod Kept
+pub mod Loose

@@ -1,5 +1,5 @@
 -- The lists of the frames that the hypervisor holds.
-use Rattle.std.specs.Prelude.{ℕ, List, length, sum_by, [], map, replicate, slice_index_or, option_map, find, ◌==◌}
+use Rattle.std.specs.Prelude.{ℕ, List, length, sum_by, [], map, replicate, slice_index_or, option_map, find, filter, not, ◌==◌}
 use Rattle.std.specs.declared.option.Option.{Option}
 use Rattle.std.specs.List.{flat_map}
 use Rattle.neph_heap.specs.declared.exposed_frame.ExposedFrame.{ExposedFrame}
@@ -34,6 +34,10 @@ frames_of xs = map (λ (x : ExposedFrame). x.frame) xs
 abbrev pub frame_in : ℕ → List ExposedFrame → Option ℕ
 frame_in pfn xs = option_map (λ (x : ExposedFrame). x.frame)
     (find (λ (x : ExposedFrame). x.pfn == pfn) xs)
+
+-- the pages but the one with this number
+abbrev pub pages_but : ℕ → List ExposedFrame → List ExposedFrame
+pages_but pfn xs = filter (λ (x : ExposedFrame). not (x.pfn == pfn)) xs
 
 -- the frames of all exposed pages
 unfoldable pub exposed_frames : List (List ExposedFrame) → List ℕ

@@ -4,8 +4,10 @@
 #![tactic(auto)]
 
 mod exposed_frame;
+mod exposing;
 mod heap;
 mod moves;
+mod page_list;
 mod pages;
 mod seats;
 mod stock;
@@ -14,6 +16,7 @@ mod tests;
 mod words;
 
 pub use exposed_frame::ExposedFrame;
+pub use exposing::{frame_comes, frame_goes};
 pub use heap::Heap;
 pub use pages::HeapPages;
 pub use stock::Stock;

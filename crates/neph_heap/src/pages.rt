@@ -15,8 +15,9 @@ ghost use Rattle.neph_heap.specs.Pages.{pages_in};
 
 use crate::heap::Heap;
 use crate::moves::{release_all, retake_all};
+use crate::page_list::PageList;
 use crate::words::{fill_pages, read_into, zero_pages};
-use neph_base::{DomId, List, NoMemory, Pfn};
+use neph_base::{DomId, NoMemory, Pfn};
 use neph_pool::{FramePool, write_bytes};
 use neph_rows::ExposedPages;
 
@@ -47,7 +48,7 @@ impl<P: FramePool> Heap<P> {
         self.stock.move_free(&mut frames, 3);
         retake_all(pool, &mut self.seat, &frames);
         zero_pages(pool, &mut self.seat, &frames, &mut born);
-        self.stock.set_exposed(id, List::of(born));
+        self.stock.set_exposed(id, PageList::of(born));
         Ok(())
     }
 
@@ -143,7 +144,7 @@ impl<P: FramePool> Heap<P> {
             frames.items(),
             &mut born,
         );
-        self.stock.set_exposed(child, List::of(born));
+        self.stock.set_exposed(child, PageList::of(born));
         Ok(())
     }
 
@@ -161,7 +162,7 @@ impl<P: FramePool> Heap<P> {
         ensures moves { Moves P.world pool.old self.old.seat pool.new self.new.seat }
         ensures shares { P.world.shares pool.new ≡ P.world.shares pool.old }
     {
-        let none = self.stock.nothing();
+        let none = self.stock.no_pages();
         let pages = self.stock.set_exposed(id, none);
         release_all(pool, &mut self.seat, pages.items());
         self.stock.add_pages(pages.items());

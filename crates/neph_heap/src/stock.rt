@@ -1,6 +1,7 @@
 // The lists of the frames that the hypervisor holds.
 use crate::exposed_frame::ExposedFrame;
-use neph_base::{DomId, FrameNo, IDS, List, MAX_FRAMES, NoMemory, Pfn};
+use crate::page_list::PageList;
+use neph_base::{DomId, FrameNo, IDS, List, MAX_FRAMES, MAX_PAGES, NoMemory, Pfn};
 use std::alloc::Global;
 use std::marker::Model;
 use std::mem;
@@ -11,7 +12,7 @@ use std::mem;
 pub struct Stock {
     alloc: Global,
     free: Vec<FrameNo>,
-    exposed: Vec<List<ExposedFrame>>,
+    exposed: Vec<PageList>,
     aside: Vec<List<FrameNo>>,
 }
 
@@ -28,9 +29,9 @@ impl Model for Stock {
 }
 
 impl Stock {
-    ghost use Rattle.std.specs.Prelude.{◌≡◌, ◌≤◌, ◌<◌, ◌+◌, ◌-◌, ◌++◌, [], IfOk, MatchOption, option_to_list, length, take, drop, reverse, slice_set, slice_index_or, vec_capacity, vec_len};
+    ghost use Rattle.std.specs.Prelude.{◌≡◌, ◌≤◌, ◌<◌, ◌+◌, ◌-◌, ◌++◌, ◌∷◌, [], All, IfOk, MatchOption, option_to_list, length, take, drop, reverse, slice_set, slice_index_or, vec_capacity, vec_len};
     ghost use Rattle.std.specs.List.{range_with_len};
-    ghost use Rattle.neph_heap.specs.Lists.{Lists, no_lists, exposed_of, aside_of, frame_in, frames_of, exposed_count, aside_count};
+    ghost use Rattle.neph_heap.specs.Lists.{Lists, no_lists, exposed_of, aside_of, frame_in, frames_of, pages_but, exposed_count, aside_count};
 
     /// No frame at all.
     pub(crate) fn new(alloc: Global) -> Result<Self, NoMemory>
@@ -40,7 +41,7 @@ impl Stock {
         let mut exposed = Vec::with_capacity(alloc, IDS)?;
         let mut aside = Vec::with_capacity(alloc, IDS)?;
         for _ in 0..IDS {
-            exposed.push(List::of(Vec::new(alloc)))?;
+            exposed.push(PageList::of(Vec::new(alloc)))?;
             aside.push(List::of(Vec::new(alloc)))?;
         }
         Ok(Stock {
@@ -163,13 +164,44 @@ impl Stock {
     }
 
     // Lets these be the exposed pages of a domain, and hands back those that were.
-    pub(crate) fn set_exposed(&mut self, id: DomId, pages: List<ExposedFrame>) -> List<ExposedFrame>
+    pub(crate) fn set_exposed(&mut self, id: DomId, pages: PageList) -> PageList
         ensures was { result ≡ exposed_of id self.old }
         ensures range { id < IDS }
         ensures now { self.new
             ≡ record self.old { exposed = slice_set self.old.exposed id pages } }
     {
         mem::replace(&mut self.exposed[id.get() as usize], pages)
+    }
+
+    // Lets one more page of a domain be exposed. Its list moves into this room.
+    pub(crate) fn add_exposed(&mut self, id: DomId, page: ExposedFrame, room: Vec<ExposedFrame>)
+        requires none { room.items ≡ [] }
+        requires room { length (exposed_of id self.old) < vec_capacity room }
+        ensures numbers { All (λ (x : ExposedFrame). x.pfn < MAX_PAGES)
+            (exposed_of id self.old ++ page ∷ []) }
+        ensures range { id < IDS }
+        ensures now { self.new ≡ record self.old {
+          exposed = slice_set self.old.exposed id (exposed_of id self.old ++ page ∷ []);
+        } }
+    {
+        let mut pages = room;
+        for old in self.exposed(id) {
+            let _number = old.pfn.get();
+            pages.push_reserved(*old);
+        }
+        let _number = page.pfn.get();
+        pages.push_reserved(page);
+        self.set_exposed(id, PageList::of(pages));
+    }
+
+    // Takes a page of a domain off its exposed pages.
+    pub(crate) fn remove_exposed(&mut self, id: DomId, pfn: Pfn)
+        ensures range { id < IDS }
+        ensures now { self.new ≡ record self.old {
+          exposed = slice_set self.old.exposed id (pages_but pfn (exposed_of id self.old));
+        } }
+    {
+        self.exposed[id.get() as usize].remove(pfn);
     }
 
     // Lets the first so many frames of the machine be free, where none is. The lowest one lies at
@@ -183,6 +215,13 @@ impl Stock {
             let f = count - 1 - i;
             self.free.push_reserved(FrameNo::new(f as u32).unwrap());
         }
+    }
+
+    // No exposed page.
+    pub(crate) fn no_pages(&self) -> PageList
+        ensures { result ≡ [] }
+    {
+        PageList::of(Vec::new(self.alloc))
     }
 
     // An empty list.

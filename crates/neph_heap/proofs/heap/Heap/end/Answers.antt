@@ -59,8 +59,8 @@ returns-clause-lists g c =
     let ys = c.set_exposed-pages.result in
     let is-2 : c.items-2.result.now ≡ exposed_of id l = c.items-2.ensures ∙ c.set_exposed-pages.ensures.was in
     c.add_pages.ensures ∙ ap (λ (k : Lists). record k { free = k.free ++ frames_of c.items-2.result.now }) c.set_exposed-pages.ensures.now
-    ∙ ap (λ (xs : List ExposedFrame). record l { free = l.free ++ frames_of xs; exposed = set l.exposed id c.nothing-none.result }) is-2
-    ∙ ap (λ (xs : List ExposedFrame). record l { free = l.free ++ frames_of (exposed_of id l); exposed = set l.exposed id xs }) c.nothing-none.ensures
+    ∙ ap (λ (xs : List ExposedFrame). record l { free = l.free ++ frames_of xs; exposed = set l.exposed id c.no_pages-none.result }) is-2
+    ∙ ap (λ (xs : List ExposedFrame). record l { free = l.free ++ frames_of (exposed_of id l); exposed = set l.exposed id xs }) c.no_pages-none.ensures
 
 pub returns-clause-heap : goal.returns-clause-heap
 returns-clause-heap g c =
