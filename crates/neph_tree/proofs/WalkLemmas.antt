@@ -11,6 +11,7 @@ use Rattle.slab.specs.Slab.{Slab, slab_len, Updates}
 use Rattle.slab.specs.Slab as slab
 use Rattle.slab.proofs.SlabLemmas.{Contains-cons}
 use Rattle.neph_base.specs.Path.{is_path}
+use Rattle.neph_tree.specs.declared.hints.Hints.{Hints}
 use Rattle.neph_tree.specs.declared.node.Node.{Node}
 use Rattle.neph_tree.specs.declared.node_slab.NodeSlab.{NodeSlab}
 use Rattle.neph_tree.specs.Places.{is_name, is_within, child_path, IsChild}
@@ -135,6 +136,10 @@ child_listed q (e ∷ es) key h =
     ] h
 
 -- ---- a new leaf
+-- hints change nothing
+pub linked_hints : (t : NodeSlab) (hints : Hints) → IsLinked t → IsLinked (record t { hints = hints })
+linked_hints t hints linked = record { tree = linked.tree; count = linked.count; root = linked.root; alone = linked.alone; children = linked.children }
+
 -- room is made
 pub linked_room : (t : NodeSlab) (s : Slab Node) → s ≡ record t.nodes { capacity = s.capacity } → IsLinked t → Holds (record t { nodes = s }) (nodes_of t)
 linked_room t s same linked =

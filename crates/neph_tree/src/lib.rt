@@ -2,6 +2,7 @@
 #![tactic(auto)]
 
 mod growth;
+mod hints;
 mod homes;
 mod limit;
 mod node;

@@ -10,6 +10,7 @@ ghost use Rattle.neph_tree.specs.Entries.{nodes_in};
 ghost use Rattle.neph_tree.specs.Nodes.{IsTree, child_names, subtree, without};
 ghost use Rattle.neph_tree.specs.Places.{is_within, IsChild};
 
+use crate::hints::Hints;
 use crate::node::Node;
 use crate::node_map::copy_of;
 use crate::places::{last_name, parent_and_name, top_of};
@@ -24,6 +25,7 @@ pub(crate) struct NodeSlab {
     nodes: Slab<Node>,
     // The key of the node at `/`.
     root: Option<usize>,
+    hints: Hints,
 }
 
 impl NodeSlab {
@@ -40,6 +42,7 @@ impl NodeSlab {
             alloc,
             nodes: Slab::new(alloc),
             root: None,
+            hints: Hints::new(alloc),
         }
     }
 
@@ -62,6 +65,9 @@ impl NodeSlab {
         requires { IsLinked self.now }
         ensures { result ≡ map.get (keys_of self.now) path.now }
     {
+        if let Some(key) = self.hinted(path) {
+            return Some(key);
+        }
         let key = self.search(path)?;
         if self.stands_at(key, path) {
             Some(key)
@@ -78,8 +84,24 @@ impl NodeSlab {
         let Some((above, name)) = parent_and_name(path) else {
             return self.root;
         };
+        if let Some(up) = self.hinted(above) {
+            return self.child(up, name);
+        }
         let up = self.search(above)?;
         self.child(up, name)
+    }
+
+    // The key of the node at the path, where a hint leads to it.
+    fn hinted(&self, path: &[u8]) -> Option<usize>
+        requires { IsLinked self.now }
+        ensures { IfSome result (λ key. map.get (keys_of self.now) path.now ≡ Some key) }
+    {
+        let key = self.hints.of(path)?;
+        if self.stands_at(key, path) {
+            Some(key)
+        } else {
+            None
+        }
     }
 
     // The key of the child of this name.
@@ -148,6 +170,7 @@ impl NodeSlab {
         let key = self.nodes.vacant_key();
         self.link(up, path, key)?;
         self.nodes.insert_reserved(node);
+        self.hints.note(path, key);
         Ok(())
     }
 

@@ -5,7 +5,7 @@ use Rattle.neph_tree.proofs.EntryLemmas.{none_there}
 use Rattle.neph_tree.proofs.TreeLemmas.{insert_is}
 use Rattle.neph_tree.proofs.LinkLemmas.{same_paths}
 use Rattle.neph_tree.proofs.LeafLemmas.{still_linked}
-use Rattle.neph_tree.proofs.WalkLemmas.{linked_room, up_room, keys_room, above_new, node_added}
+use Rattle.neph_tree.proofs.WalkLemmas.{linked_room, up_room, keys_room, above_new, linked_hints, node_added}
 use Rattle.neph_tree.specs.NodeSlab.{nodes_of}
 use Rattle.neph_tree.proofs.node_slab.NodeSlab.add.Goals as goal
 
@@ -41,7 +41,7 @@ returns-in_err-link-clause-err c =
 
 pub returns-clause-linked : goal.returns-clause-linked
 returns-clause-linked c =
-    (node_added c.args.self.now c.reserve.new.self c.insert_reserved.new.self c.link.new.self c.args.path.now c.args.value.items c.vacant_key-key.result c.insert_reserved.result c.in_ok-node.node c.requires.linked c.requires.missing c.requires.tree c.reserve.ensures.rest_kept
+    linked_hints _ _ (node_added c.args.self.now c.reserve.new.self c.insert_reserved.new.self c.link.new.self c.args.path.now c.args.value.items c.vacant_key-key.result c.insert_reserved.result c.in_ok-node.node c.requires.linked c.requires.missing c.requires.tree c.reserve.ensures.rest_kept
     c.vacant_key-key.ensures.value c.insert_reserved.ensures.key c.in_ok-node.ensures.path (ap (λ v. v.items) c.in_ok-node.ensures.value) c.in_ok-node.ensures.leaf c.in_ok-link.ensures.ok c.insert_reserved.ensures.was_vacant c.insert_reserved.ensures.updates c.insert_reserved.ensures.len).0
 
 pub returns-clause-ok : goal.returns-clause-ok
