@@ -1,5 +1,5 @@
 -- A tree of byte strings and the finite map that it stands for.
-use Rattle.std.proofs.Common.{◌≡◌, ℕ, Bool, true, false, cond, ◌&&◌, List, [], ◌∷◌, length, Option, Some, None, is_some, refl, sym, ap, ◌∙◌, subst, Vec, Ordering, Less, Equal, Greater, arith}
+use Rattle.std.proofs.Common.{◌≡◌, ℕ, Bool, true, false, cond, ◌&&◌, List, [], ◌∷◌, length, Option, Some, None, is_some, refl, sym, ap, ◌∙◌, subst, Bor, Ordering, Less, Equal, Greater, arith}
 use Rattle.std.specs.Prelude.{T}
 use Rattle.std.specs.Ordering.{nat_cmp, is_eq, is_lt, eq_by_cmp, match_ordering}
 use Rattle.std.specs.Cmp.Lexicographic.{slice_cmp, nat_list_cmp_total}
@@ -9,7 +9,7 @@ use Rattle.std.specs.Map.{keys_of}
 use Rattle.std.specs.BTreeMap.{insert_entry}
 use Rattle.std.specs.FinMap.{FinMap, get, get-entries, entries_sorted, empty, len-entries, len-empty, insert, entries, retain_keys, from_entries, find, put, is_sorted, get-from_entries, get-insert, get-retain_keys, entries-insert, same_map, slice_cmp-IsAntisymmetric, nat_cmp-IsAntisymmetric}
 use Rattle.std.specs.FinMap.Entries.{below_all, where_key, by_order, find-put, find-where_key, is_sorted-where_key}
-use Rattle.neph_tree.specs.Entries.{shown}
+use Rattle.neph_tree.specs.Entries.{lent}
 
 abbrev pub order : List ℕ → List ℕ → Ordering
 order = slice_cmp nat_cmp
@@ -25,20 +25,19 @@ equal_at Greater e = absurd cc
 pub tied_same : (q k : List ℕ) → is_eq (order q k) ≡ true → q ≡ k
 tied_same q k e = slice_cmp-IsAntisymmetric nat_cmp-IsAntisymmetric q k (equal_at _ e)
 
-module _ {A : Type 0} where
-  pub shown-insert : (es : List (Vec ℕ A × Vec ℕ A)) (k v : Vec ℕ A) → shown (insert_entry (λ x y. order x.items y.items) es k v) ≡ put order k.items v.items (shown es)
-  shown-insert [] k v = refl
-  shown-insert (e ∷ es) k v =
-      elim (order k.items e.0.items) as (λ o. shown (match_ordering o ((k, v) ∷ e ∷ es) ((e.0, v) ∷ es) (e ∷ insert_entry (λ x y. order x.items y.items) es k v)) ≡ by_order o ((k.items, v.items) ∷ shown (e ∷ es)) ((e.0.items, v.items) ∷ shown es) ((e.0.items, e.1.items) ∷ put order k.items v.items (shown es))) [
-        | Less ↦ refl
-        | Equal ↦ refl
-        | Greater ↦ ap (λ xs. (e.0.items, e.1.items) ∷ xs) (shown-insert es k v)
-      ]
+lent-insert : (es : List (Bor (List ℕ) × Bor (List ℕ))) (k v : Bor (List ℕ)) → lent (insert_entry (λ x y. order x.now y.now) es k v) ≡ put order k.now v.now (lent es)
+lent-insert [] k v = refl
+lent-insert (e ∷ es) k v =
+    elim (order k.now e.0.now) as (λ o. lent (match_ordering o ((k, v) ∷ e ∷ es) ((e.0, v) ∷ es) (e ∷ insert_entry (λ x y. order x.now y.now) es k v)) ≡ by_order o ((k.now, v.now) ∷ lent (e ∷ es)) ((e.0.now, v.now) ∷ lent es) ((e.0.now, e.1.now) ∷ put order k.now v.now (lent es))) [
+      | Less ↦ refl
+      | Equal ↦ refl
+      | Greater ↦ ap (λ xs. (e.0.now, e.1.now) ∷ xs) (lent-insert es k v)
+    ]
 
-  pub insert-shown : (es fs : List (Vec ℕ A × Vec ℕ A)) (k v : Vec ℕ A) → fs ≡ insert_entry (λ x y. order x.items y.items) es k v → from_entries {R = order} (shown fs) ≡ insert (from_entries (shown es)) k.items v.items
-  insert-shown es fs k v e = same_nodes _ _ (λ q.
-      get-from_entries nat_list_cmp_total (shown fs) q ∙ ap (find order q) (ap shown e ∙ shown-insert es k v) ∙ find-put order nat_list_cmp_total q k.items v.items (shown es)
-      ∙ sym (get-insert nat_list_cmp_total (from_entries (shown es)) k.items v.items q ∙ ap (cond (eq_by_cmp order q k.items) (Some v.items)) (get-from_entries nat_list_cmp_total (shown es) q)))
+pub insert-lent : (es fs : List (Bor (List ℕ) × Bor (List ℕ))) (k v : Bor (List ℕ)) → fs ≡ insert_entry (λ x y. order x.now y.now) es k v → from_entries {R = order} (lent fs) ≡ insert (from_entries (lent es)) k.now v.now
+insert-lent es fs k v e = same_nodes _ _ (λ q.
+    get-from_entries nat_list_cmp_total (lent fs) q ∙ ap (find order q) (ap lent e ∙ lent-insert es k v) ∙ find-put order nat_list_cmp_total q k.now v.now (lent es)
+    ∙ sym (get-insert nat_list_cmp_total (from_entries (lent es)) k.now v.now q ∙ ap (cond (eq_by_cmp order q k.now) (Some v.now)) (get-from_entries nat_list_cmp_total (lent es) q)))
 
 alike : (p : List ℕ → Bool) (q x : List ℕ) → order q x ≡ Equal → p x ≡ p q
 alike p q x e = ap p (sym (slice_cmp-IsAntisymmetric nat_cmp-IsAntisymmetric q x e))
@@ -88,16 +87,15 @@ entries-retain_keys m p =
     get-where m p q ∙ ap (λ o. cond (p q) o None) (get-entries m q) ∙ sym (find-where_key order p q (λ x t. alike p q x t) (entries m)) ∙ sym (get-from_entries nat_list_cmp_total kept q)) in
     ap (λ n. entries n) same ∙ entries-from kept (is_sorted-where_key order p (entries m) (entries_sorted m))
 
-module _ {A : Type 0} where
-  below-shown : (k : List ℕ) (es : List (Vec ℕ A × Vec ℕ A)) → AllByRecursion (λ y. order k y.items ≡ Less) (keys_of es) → T (below_all order k (shown es))
-  below-shown k [] h = tt
-  below-shown k (e ∷ es) h = both _ _ (subst (λ o. T (is_lt o)) (sym h.0) tt) (below-shown k es h.1)
+below-lent : (k : Bor (List ℕ)) (es : List (Bor (List ℕ) × Bor (List ℕ))) → AllByRecursion (λ y. order k.now y.now ≡ Less) (keys_of es) → T (below_all order k.now (lent es))
+below-lent k [] h = tt
+below-lent k (e ∷ es) h = both _ _ (subst (λ o. T (is_lt o)) (sym h.0) tt) (below-lent k es h.1)
 
-  pub sorted-shown : (es : List (Vec ℕ A × Vec ℕ A)) → IsStrictlySortedBy (λ x y. order x.items y.items) (keys_of es) → T (is_sorted order (shown es))
-  unfolding IsStrictlySortedBy
-  sorted-shown [] h = tt
-  sorted-shown (e ∷ es) h = both _ _ (below-shown e.0.items es h.0) (sorted-shown es h.1)
+sorted-lent : (es : List (Bor (List ℕ) × Bor (List ℕ))) → IsStrictlySortedBy (λ x y. order x.now y.now) (keys_of es) → T (is_sorted order (lent es))
+unfolding IsStrictlySortedBy
+sorted-lent [] h = tt
+sorted-lent (e ∷ es) h = both _ _ (below-lent e.0 es h.0) (sorted-lent es h.1)
 
-  -- the entries of the map are those of the tree
-  pub entries-shown : (es : List (Vec ℕ A × Vec ℕ A)) → IsStrictlySortedBy (λ x y. order x.items y.items) (keys_of es) → entries (from_entries {R = order} (shown es)) ≡ shown es
-  entries-shown es h = entries-from (shown es) (sorted-shown es h)
+-- the entries of the map are those of the tree
+pub entries-lent : (es : List (Bor (List ℕ) × Bor (List ℕ))) → IsStrictlySortedBy (λ x y. order x.now y.now) (keys_of es) → entries (from_entries {R = order} (lent es)) ≡ lent es
+entries-lent es h = entries-from (lent es) (sorted-lent es h)

@@ -15,6 +15,7 @@ use Rattle.neph_tree.specs.declared.hints.Hints.{Hints}
 use Rattle.neph_tree.specs.declared.node.Node.{Node}
 use Rattle.neph_tree.specs.declared.node_slab.NodeSlab.{NodeSlab}
 use Rattle.neph_tree.specs.Places.{is_name, is_within, child_path, IsChild}
+use Rattle.neph_tree.specs.Growth.{with_added}
 use Rattle.neph_tree.specs.Nodes.{Nodes, IsTree, child_names, subtree, without}
 use Rattle.neph_tree.specs.Node.{child_of, names_of}
 use Rattle.neph_tree.specs.NodeSlab.{nodes_of, keys_of, node_at, AreAlone, IsLinked, IsUp, IsAttached, IsLeaf}
@@ -159,6 +160,21 @@ above_new m path value d name tree child =
       | inl same ↦ absurd (omega (arith, child_longer d name child.one, ap (λ l. length l) child.whole, ap (λ l. length l) same))
       | inr there ↦ there
     ]
+
+-- what the tree with a node has, which may have been there
+pub added_path : (m : Nodes) (path value : List ℕ) → IsTree (with_added m path value) → is_path path ≡ true
+added_path m path value tree =
+    elim (contains_key m path) as (λ b. contains_key m path ≡ b → IsTree (cond b m (insert m path value)) → is_path path ≡ true) [
+      | true ↦ λ e now. now.paths path e
+      | false ↦ λ e now. now.paths path (insert_is m path value)
+    ] refl tree
+
+pub added_above : (m : Nodes) (path value d name : List ℕ) → IsTree (with_added m path value) → IsChild path d name → contains_key m d ≡ true
+added_above m path value d name tree child =
+    elim (contains_key m path) as (λ b. contains_key m path ≡ b → IsTree (cond b m (insert m path value)) → contains_key m d ≡ true) [
+      | true ↦ λ e now. now.closed d path child.form (ap (λ p. is_within d p) child.whole ∙ within_below d name) e
+      | false ↦ λ e now. above_new m path value d name now child
+    ] refl tree
 
 pub node_added : (t : NodeSlab) (s last : Slab Node) (mid : NodeSlab) (path value : List ℕ) (key at : ℕ) (node : Node) → IsLinked t → contains_key (nodes_of t) path ≡ false → IsTree (insert (nodes_of t) path value) → s ≡ record t.nodes { capacity = s.capacity }
     → key ≡ s.vacant_key → at ≡ mid.nodes.vacant_key → node.path.items ≡ path → node.value.items ≡ value → IsLeaf node → IsAttached path (Some key) (record t { nodes = s }) mid → node_at mid at ≡ None → Updates mid.nodes last at (Some node) → slab_len last ≡ slab_len mid.nodes + 1

@@ -5,6 +5,7 @@ ghost use Rattle.std.specs.Ordering.{nat_cmp};
 ghost use Rattle.std.specs.Cmp.Lexicographic.{slice_cmp};
 ghost use Rattle.std.specs.List.Sorted.{IsStrictlySortedBy};
 ghost use Rattle.std.specs.FinMap as map;
+ghost use Rattle.neph_tree.specs.Entries.{lent};
 ghost use Rattle.neph_tree.specs.Growth.{with_added};
 ghost use Rattle.neph_tree.specs.Nodes.{IsTree, subtree, child_names, with_missing, without};
 ghost use Rattle.neph_tree.specs.Places.{home};
@@ -85,6 +86,14 @@ impl NodeMap {
         self.nodes.subtree(top)
     }
 
+    // The same where they lie.
+    pub(crate) fn within<'t>(&'t self, top: &[u8]) -> Result<Vec<(&'t [u8], &'t [u8])>, NoMemory>
+        ensures { IfOk result (λ nodes.
+            lent nodes.items ≡ map.entries (subtree self.now top.now)) }
+    {
+        self.nodes.within(top)
+    }
+
     // The names of a directory's children, `None` exactly where there is no such node.
     pub(crate) fn names(&self, directory: &[u8]) -> Result<Option<Names>, NoMemory>
         ensures names { IfOk result (λ names.
@@ -116,13 +125,13 @@ impl NodeMap {
         ensures tells { IfOk result (λ added. added ≡ not (map.contains_key self.old path.now)) }
         ensures err { OnErr result (self.new ≡ self.old) }
     {
-        if self.nodes.contains(path) {
-            return Ok(false);
-        }
         if self.nodes.len() >= u32::MAX as usize {
             return Err(NoMemory);
         }
-        self.nodes.add(path, value)?;
+        let added = self.nodes.add(path, value)?;
+        if !added {
+            return Ok(false);
+        }
         count_up(&mut self.homes, path);
         Ok(true)
     }

@@ -6,7 +6,8 @@ ghost use Rattle.std.specs.Cmp.Lexicographic.{slice_cmp};
 ghost use Rattle.std.specs.List.Sorted.{IsStrictlySortedBy};
 ghost use Rattle.std.specs.FinMap as map;
 ghost use Rattle.neph_base.specs.Path.{is_path};
-ghost use Rattle.neph_tree.specs.Entries.{nodes_in};
+ghost use Rattle.neph_tree.specs.Entries.{lent, nodes_in};
+ghost use Rattle.neph_tree.specs.Growth.{with_added};
 ghost use Rattle.neph_tree.specs.Nodes.{IsTree, child_names, subtree, without};
 ghost use Rattle.neph_tree.specs.Places.{is_within, IsChild};
 
@@ -154,9 +155,42 @@ impl NodeSlab {
         }
     }
 
-    // Makes a node, which isn't there, below one that is.
-    pub(crate) fn add(&mut self, path: &[u8], value: Vec<u8>) -> Result<(), NoMemory>
+    // Makes a node, if there is none at the path. It tells whether there was none.
+    pub(crate) fn add(&mut self, path: &[u8], value: Vec<u8>) -> Result<bool, NoMemory>
         requires linked { IsLinked self.old }
+        requires tree { IsTree (with_added (nodes_of self.old) path.now value.items) }
+        ensures linked { IsLinked self.new }
+        ensures ok { OnOk result
+            (nodes_of self.new ≡ with_added (nodes_of self.old) path.now value.items) }
+        ensures tells { IfOk result (λ added.
+            added ≡ not (map.contains_key (nodes_of self.old) path.now)) }
+        ensures err { OnErr result (nodes_of self.new ≡ nodes_of self.old) }
+    {
+        let up = self.parent_of(path);
+        if self.leads_to(up, path) {
+            return Ok(false);
+        }
+        self.add_below(up, path, value)?;
+        Ok(true)
+    }
+
+    // Whether the node above, or the tree, knows a node at the path.
+    fn leads_to(&self, up: Option<usize>, path: &[u8]) -> bool
+        requires linked { IsLinked self.now }
+        requires path { is_path path.now ≡ true }
+        requires up { IsUp self.now path.now up }
+        ensures { result ≡ map.contains_key (nodes_of self.now) path.now }
+    {
+        match up {
+            Some(up) => self.child(up, last_name(path)).is_some(),
+            None => self.root.is_some(),
+        }
+    }
+
+    // Makes a node, which isn't there, below one that is.
+    fn add_below(&mut self, up: Option<usize>, path: &[u8], value: Vec<u8>) -> Result<(), NoMemory>
+        requires linked { IsLinked self.old }
+        requires up { IsUp self.old path.now up }
         requires missing { map.contains_key (nodes_of self.old) path.now ≡ false }
         requires tree { IsTree (map.insert (nodes_of self.old) path.now value.items) }
         ensures linked { IsLinked self.new }
@@ -165,7 +199,6 @@ impl NodeSlab {
         ensures err { OnErr result (nodes_of self.new ≡ nodes_of self.old) }
     {
         let node = Node::new(self.alloc, path, value)?;
-        let up = self.parent_of(path);
         self.nodes.reserve(1)?;
         let key = self.nodes.vacant_key();
         self.link(up, path, key)?;
@@ -312,13 +345,29 @@ impl NodeSlab {
         let found = self.gathered(top)?;
         let mut nodes = Vec::with_capacity(self.alloc, found.len())?;
         for (path, value) in found {
+            let path = copy_of(self.alloc, path)?;
+            let value = copy_of(self.alloc, value)?;
             nodes.push((Bytes::of(path), Bytes::of(value)))?;
         }
         Ok(nodes)
     }
 
+    // The same where they lie.
+    pub(crate) fn within<'t>(&'t self, top: &[u8]) -> Result<Vec<(&'t [u8], &'t [u8])>, NoMemory>
+        requires { IsLinked self.now }
+        ensures { IfOk result (λ nodes.
+            lent nodes.items ≡ map.entries (subtree (nodes_of self.now) top.now)) }
+    {
+        let found = self.gathered(top)?;
+        let mut nodes = Vec::with_capacity(self.alloc, found.len())?;
+        for (path, value) in found {
+            nodes.push((path, value))?;
+        }
+        Ok(nodes)
+    }
+
     // The same as a map.
-    fn gathered(&self, top: &[u8]) -> Result<BTreeMap<Vec<u8>, Vec<u8>>, NoMemory>
+    fn gathered<'t>(&'t self, top: &[u8]) -> Result<BTreeMap<&'t [u8], &'t [u8]>, NoMemory>
         requires { IsLinked self.now }
         ensures { IfOk result (λ found.
             nodes_in found.entries ≡ subtree (nodes_of self.now) top.now) }
@@ -333,8 +382,12 @@ impl NodeSlab {
         }
     }
 
-    // Adds copies of the node at the key and of all below it.
-    fn gather(&self, key: usize, found: &mut BTreeMap<Vec<u8>, Vec<u8>>) -> Result<(), NoMemory>
+    // Adds the node at the key and all below it.
+    fn gather<'t>(
+        &'t self,
+        key: usize,
+        found: &mut BTreeMap<&'t [u8], &'t [u8]>,
+    ) -> Result<(), NoMemory>
         requires linked { IsLinked self.now }
         requires there { is_some (node_at self.now key) ≡ true }
         requires part { IsPart (nodes_in found.old.entries) (nodes_of self.now) }
@@ -345,9 +398,7 @@ impl NodeSlab {
         let Some(node) = self.nodes.get(key) else {
             return Ok(());
         };
-        let path = copy_of(self.alloc, &node.path)?;
-        let value = copy_of(self.alloc, &node.value)?;
-        found.insert(path, value)?;
+        found.insert(&node.path, &node.value)?;
         for (_, child) in node.children.iter() {
             self.gather(*child, found)?;
         }

@@ -6,7 +6,7 @@ ghost use Rattle.std.specs.Cmp.Lexicographic.{slice_cmp};
 ghost use Rattle.std.specs.List.Sorted.{IsStrictlySortedBy};
 ghost use Rattle.std.specs.FinMap as map;
 ghost use Rattle.neph_base.specs.Path.{is_path};
-ghost use Rattle.neph_tree.specs.Entries.{shown};
+ghost use Rattle.neph_tree.specs.Entries.{lent, shown};
 ghost use Rattle.neph_tree.specs.Growth.{ArePaths};
 ghost use Rattle.neph_tree.specs.Nodes.{IsTree, child_names, subtree, with_node, with_nodes, without};
 
@@ -176,5 +176,14 @@ impl Tree {
         ensures tree { IsTree self.now }
     {
         self.nodes.subtree(path)
+    }
+
+    /// The same where they lie, in no memory of their own.
+    pub fn within<'t>(&'t self, path: &[u8]) -> Result<Vec<(&'t [u8], &'t [u8])>, NoMemory>
+        ensures nodes { IfOk result (λ nodes.
+            lent nodes.items ≡ map.entries (subtree self.now path.now)) }
+        ensures tree { IsTree self.now }
+    {
+        self.nodes.within(path)
     }
 }

@@ -1,8 +1,8 @@
 -- Nodes that are added one after the other.
-use Rattle.std.proofs.Common.{◌≡◌, ℕ, List, [], ◌∷◌, ◌++◌, ◌+◌, ◌<◌, length, map, take, get_or, refl, sym, ap, ◌∙◌, append_assoc}
+use Rattle.std.proofs.Common.{◌≡◌, ℕ, List, [], ◌∷◌, ◌++◌, ◌+◌, ◌<◌, length, map, take, get_or, refl, sym, ap, ◌∙◌, append_assoc, Bor}
 use Rattle.std.specs.Prelude.{codes, Vec}
 use Rattle.std.proofs.lemmas.List.{map-append, take_more}
-use Rattle.neph_tree.specs.Entries.{shown}
+use Rattle.neph_tree.specs.Entries.{lent, shown}
 
 -- the five nodes of a device, by what each call was handed
 pub five_added : (front back id a b c d e f i g : List ℕ) (n0 n1 n2 n3 n4 n5 : List (List ℕ × List ℕ)) → a ≡ front → b ≡ back → c ≡ front → d ≡ back → e ≡ front → f ≡ back → i ≡ id → g ≡ back
@@ -24,5 +24,13 @@ pub shown-push : {A : Type 0} (xs : List (Vec ℕ A × Vec ℕ A)) (x : Vec ℕ 
 shown-push [] x = refl
 shown-push (y ∷ xs) x = ap (λ zs. (y.0.items, y.1.items) ∷ zs) (shown-push xs x)
 
-pub map_more : {X Y : Type 0} (f : X → Y) (xs : List X) (i : ℕ) (x : X) → i < length xs → x ≡ get_or xs i x → map f (take (i + 1) xs) ≡ map f (take i xs) ++ f x ∷ []
-map_more f xs i x inside is = ap (λ ys. map f ys) (take_more xs i x inside) ∙ map-append f (take i xs) (get_or xs i x ∷ []) ∙ ap (λ y. map f (take i xs) ++ f y ∷ []) (sym is)
+-- one copy more of a list's items
+pub more_copied : {X Y : Type 0} (copy : X → Y) (old now new : List Y) (xs : List X) (i : ℕ) (d : X) → i < length xs → now ≡ old ++ map copy (take i xs) → new ≡ now ++ copy (get_or xs i d) ∷ [] → new ≡ old ++ map copy (take (i + 1) xs)
+more_copied copy old now new xs i d inside so_far pushed =
+    let x = get_or xs i d in
+    pushed ∙ ap (λ ys. ys ++ copy x ∷ []) so_far ∙ append_assoc old (map copy (take i xs)) (copy x ∷ [])
+    ∙ ap (λ ys. old ++ ys) (sym (ap (λ ys. map copy ys) (take_more xs i d inside) ∙ map-append copy (take i xs) (x ∷ [])))
+
+pub map_lent : {Y : Type 0} (f : List ℕ × List ℕ → Y) (xs : List (Bor (List ℕ) × Bor (List ℕ))) → map (λ e. f (e.0.now, e.1.now)) xs ≡ map f (lent xs)
+map_lent f [] = refl
+map_lent f (x ∷ xs) = ap (λ ys. f (x.0.now, x.1.now) ∷ ys) (map_lent f xs)

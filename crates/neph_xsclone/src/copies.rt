@@ -6,7 +6,7 @@ ghost use Rattle.neph_xsclone.specs.Rewriting.{backend, copied, copies, copies_w
 
 use crate::bytes::{backend, moved_or_same};
 use crate::value::value_in_clone;
-use neph_base::{Bytes, DomId, NoMemory};
+use neph_base::{DomId, NoMemory};
 use neph_tree::{Place, Tree};
 use std::alloc::Global;
 
@@ -68,7 +68,7 @@ fn copy_within(
         ++ copies_within t.now parent child from.now to.now) }
     ensures tree { IsTree t.now }
 {
-    let old = t.subtree(from)?;
+    let old = t.within(from)?;
     for node in &old {
         add_copy(alloc, parent, child, from, to, node, nodes)?;
     }
@@ -82,14 +82,14 @@ fn add_copy(
     child: DomId,
     from: &[u8],
     to: &[u8],
-    node: &(Bytes, Bytes),
+    node: &(&[u8], &[u8]),
     nodes: &mut Vec<(Vec<u8>, Vec<u8>)>,
 ) -> Result<(), NoMemory>
     ensures { OnOk result (shown nodes.new.items ≡ shown nodes.old.items
-        ++ copied parent child from.now to.now node.now ∷ []) }
+        ++ copied parent child from.now to.now (node.now.0.now, node.now.1.now) ∷ []) }
 {
-    let path = moved_or_same(alloc, from, to, node.0.items())?;
-    let value = value_in_clone(alloc, parent, child, node.0.items(), node.1.items())?;
+    let path = moved_or_same(alloc, from, to, node.0)?;
+    let value = value_in_clone(alloc, parent, child, node.0, node.1)?;
     nodes.push((path, value))?;
     Ok(())
 }

@@ -19,7 +19,7 @@ loop-child-init t c = record {
       let both : Some c.in-Some.node.now ≡ Some node = c.in-Some.ensures ∙ at in
       let one : c.in-Some.node.now ≡ node = cc in
       let G : Node → Type 0 = λ n. Gathers c.args.self.now n.path.items (nodes_in c.args.found.now.entries) (nodes_in c.insert.new.self.entries) (values_of n.children.entries) in
-      let begun = gather_begun c.args.self.now c.args.key c.in-Some.node.now c.args.found.now.entries c.insert.new.self.entries c.in_ok-path.path c.in_ok-value.value c.requires.linked (sym c.in-Some.ensures) c.requires.part (c.in_ok-path.ensures ∙ c.deref.ensures.value) (c.in_ok-value.ensures ∙ c.deref-2.ensures.value) c.in_ok-insert.ensures.entries in
+      let begun = gather_begun c.args.self.now c.args.key c.in-Some.node.now c.args.found.now.entries c.insert.new.self.entries c.deref.result c.deref-2.result c.requires.linked (sym c.in-Some.ensures) c.requires.part c.deref.ensures.value c.deref-2.ensures.value c.in_ok-insert.ensures.entries in
       let left : c.in-Some.node.now.children.entries ≡ c.into_iter-child-iterator.result = sym (c.into_iter-child-iterator.ensures.into_iter_gives ∙ c.iter-child-items.ensures.rest) in
       let L : Node → Type 0 = λ n. Gathers c.args.self.now n.path.items (nodes_in c.args.found.now.entries) (nodes_in c.insert.new.self.entries) (values_of c.into_iter-child-iterator.result) in
       subst L one (subst (λ es. Gathers c.args.self.now c.in-Some.node.now.path.items (nodes_in c.args.found.now.entries) (nodes_in c.insert.new.self.entries) (values_of es)) left begun);

@@ -1,0 +1,15 @@
+use Rattle.std.proofs.Common.{◌≡◌, ℕ, List, Bor, [], ◌++◌, sym, ap, ◌∙◌}
+use Rattle.std.proofs.lemmas.List.{append-nil}
+use Rattle.std.specs.FinMap.{entries}
+use Rattle.neph_tree.specs.Entries.{lent}
+use Rattle.neph_tree.proofs.EntryLemmas.{entries-lent}
+use Rattle.neph_tree.proofs.node_slab.NodeSlab.within.Goals as goal
+
+pub returns : goal.returns
+returns c =
+    let all = c.into_iter-path-iterator.result in
+    let es = c.in_ok-found.found.entries in
+    let done : c.loop-path.nodes.items ++ [] ≡ c.in_ok-nodes.nodes.items ++ all = ap (λ left. c.loop-path.nodes.items ++ left) (sym c.in-None.ensures.steps.0) ∙ c.loop-path.invariant in
+    let gives : all ≡ es = c.into_iter-path-iterator.ensures.into_iter_gives.0 in
+    let items : c.loop-path.nodes.items ≡ es = sym (append-nil _) ∙ done ∙ ap (λ (front : List (Bor (List ℕ) × Bor (List ℕ))). front ++ all) c.in_ok-nodes.ensures.items ∙ gives in
+    ap (λ xs. lent xs) items ∙ sym (entries-lent es c.len.ensures.ordered) ∙ ap (λ m. entries m) c.in_ok-found.ensures
