@@ -1,12 +1,8 @@
 -- A tree of byte strings and the finite map that it stands for.
-use Rattle.std.proofs.Common.{◌≡◌, ℕ, Bool, true, false, cond, ◌&&◌, List, [], ◌∷◌, length, Option, Some, None, is_some, refl, sym, ap, ◌∙◌, subst, Bor, Ordering, Less, Equal, Greater, arith}
+use Rattle.std.proofs.Common.{◌≡◌, ℕ, Bool, true, false, cond, ◌&&◌, List, [], ◌∷◌, length, Option, Some, None, is_some, refl, sym, ap, ◌∙◌, Bor, Ordering, Less, Equal, Greater, arith}
 use Rattle.std.specs.Prelude.{T}
-use Rattle.std.specs.Ordering.{nat_cmp, is_eq, is_lt, eq_by_cmp, match_ordering}
+use Rattle.std.specs.Ordering.{nat_cmp, is_eq, is_lt, eq_by_cmp}
 use Rattle.std.specs.Cmp.Lexicographic.{slice_cmp, nat_list_cmp_total}
-use Rattle.std.specs.List.{AllByRecursion}
-use Rattle.std.specs.List.Sorted.{IsStrictlySortedBy}
-use Rattle.std.specs.Map.{keys_of}
-use Rattle.std.specs.BTreeMap.{insert_entry}
 use Rattle.std.specs.FinMap.{FinMap, get, get-entries, entries_sorted, empty, len-entries, len-empty, insert, entries, retain_keys, from_entries, find, put, is_sorted, get-from_entries, get-insert, get-retain_keys, entries-insert, same_map, slice_cmp-IsAntisymmetric, nat_cmp-IsAntisymmetric}
 use Rattle.std.specs.FinMap.Entries.{below_all, where_key, by_order, find-put, find-where_key, is_sorted-where_key}
 use Rattle.neph_tree.specs.Entries.{lent}
@@ -25,19 +21,10 @@ equal_at Greater e = absurd cc
 pub tied_same : (q k : List ℕ) → is_eq (order q k) ≡ true → q ≡ k
 tied_same q k e = slice_cmp-IsAntisymmetric nat_cmp-IsAntisymmetric q k (equal_at _ e)
 
-lent-insert : (es : List (Bor (List ℕ) × Bor (List ℕ))) (k v : Bor (List ℕ)) → lent (insert_entry (λ x y. order x.now y.now) es k v) ≡ put order k.now v.now (lent es)
-lent-insert [] k v = refl
-lent-insert (e ∷ es) k v =
-    elim (order k.now e.0.now) as (λ o. lent (match_ordering o ((k, v) ∷ e ∷ es) ((e.0, v) ∷ es) (e ∷ insert_entry (λ x y. order x.now y.now) es k v)) ≡ by_order o ((k.now, v.now) ∷ lent (e ∷ es)) ((e.0.now, v.now) ∷ lent es) ((e.0.now, e.1.now) ∷ put order k.now v.now (lent es))) [
-      | Less ↦ refl
-      | Equal ↦ refl
-      | Greater ↦ ap (λ xs. (e.0.now, e.1.now) ∷ xs) (lent-insert es k v)
-    ]
-
-pub insert-lent : (es fs : List (Bor (List ℕ) × Bor (List ℕ))) (k v : Bor (List ℕ)) → fs ≡ insert_entry (λ x y. order x.now y.now) es k v → from_entries {R = order} (lent fs) ≡ insert (from_entries (lent es)) k.now v.now
+pub insert-lent : (es fs : List (Bor (List ℕ) × Bor (List ℕ))) (k v : List ℕ) → lent fs ≡ put order k v (lent es) → from_entries {R = order} (lent fs) ≡ insert (from_entries (lent es)) k v
 insert-lent es fs k v e = same_nodes _ _ (λ q.
-    get-from_entries nat_list_cmp_total (lent fs) q ∙ ap (find order q) (ap lent e ∙ lent-insert es k v) ∙ find-put order nat_list_cmp_total q k.now v.now (lent es)
-    ∙ sym (get-insert nat_list_cmp_total (from_entries (lent es)) k.now v.now q ∙ ap (cond (eq_by_cmp order q k.now) (Some v.now)) (get-from_entries nat_list_cmp_total (lent es) q)))
+    get-from_entries nat_list_cmp_total (lent fs) q ∙ ap (find order q) e ∙ find-put order nat_list_cmp_total q k v (lent es)
+    ∙ sym (get-insert nat_list_cmp_total (from_entries (lent es)) k v q ∙ ap (cond (eq_by_cmp order q k) (Some v)) (get-from_entries nat_list_cmp_total (lent es) q)))
 
 alike : (p : List ℕ → Bool) (q x : List ℕ) → order q x ≡ Equal → p x ≡ p q
 alike p q x e = ap p (sym (slice_cmp-IsAntisymmetric nat_cmp-IsAntisymmetric q x e))
@@ -86,16 +73,3 @@ entries-retain_keys m p =
     let same : retain_keys m p ≡ from_entries {R = order} kept = same_nodes _ _ (λ q.
     get-where m p q ∙ ap (λ o. cond (p q) o None) (get-entries m q) ∙ sym (find-where_key order p q (λ x t. alike p q x t) (entries m)) ∙ sym (get-from_entries nat_list_cmp_total kept q)) in
     ap (λ n. entries n) same ∙ entries-from kept (is_sorted-where_key order p (entries m) (entries_sorted m))
-
-below-lent : (k : Bor (List ℕ)) (es : List (Bor (List ℕ) × Bor (List ℕ))) → AllByRecursion (λ y. order k.now y.now ≡ Less) (keys_of es) → T (below_all order k.now (lent es))
-below-lent k [] h = tt
-below-lent k (e ∷ es) h = both _ _ (subst (λ o. T (is_lt o)) (sym h.0) tt) (below-lent k es h.1)
-
-sorted-lent : (es : List (Bor (List ℕ) × Bor (List ℕ))) → IsStrictlySortedBy (λ x y. order x.now y.now) (keys_of es) → T (is_sorted order (lent es))
-unfolding IsStrictlySortedBy
-sorted-lent [] h = tt
-sorted-lent (e ∷ es) h = both _ _ (below-lent e.0 es h.0) (sorted-lent es h.1)
-
--- the entries of the map are those of the tree
-pub entries-lent : (es : List (Bor (List ℕ) × Bor (List ℕ))) → IsStrictlySortedBy (λ x y. order x.now y.now) (keys_of es) → entries (from_entries {R = order} (lent es)) ≡ lent es
-entries-lent es h = entries-from (lent es) (sorted-lent es h)

@@ -3,13 +3,13 @@ use Rattle.std.proofs.Common.{◌≡◌, ◌⊎◌, inl, inr, ℕ, Bool, true, f
 use Rattle.std.specs.FinMap.{get, insert, empty, get-empty}
 use Rattle.std.specs.Ordering.{eq_by_cmp}
 use Rattle.std.specs.Map.{values_of}
-use Rattle.std.specs.BTreeMap.{insert_entry}
+use Rattle.std.specs.FinMap.Entries.{put}
 use Rattle.slab.proofs.SlabLemmas.{Contains-cons_cases}
 use Rattle.neph_tree.specs.declared.node.Node.{Node}
 use Rattle.neph_tree.specs.declared.node_slab.NodeSlab.{NodeSlab}
 use Rattle.neph_tree.specs.Places.{is_within, child_path}
 use Rattle.neph_tree.specs.Nodes.{Nodes, subtree}
-use Rattle.neph_tree.specs.Entries.{nodes_in}
+use Rattle.neph_tree.specs.Entries.{lent, nodes_in}
 use Rattle.neph_tree.specs.Node.{child_of}
 use Rattle.neph_tree.specs.NodeSlab.{nodes_of, keys_of, node_at, IsLinked, IsPart, IsBelowAny, Gathers}
 use Rattle.neph_tree.proofs.EntryLemmas.{order, same_nodes, get-where, tied_same, insert-lent}
@@ -109,10 +109,10 @@ gathered_all t top new g = same_nodes _ _ (λ q. by q (get new q) refl ∙ sym (
       e ∙ sym s.0 ∙ ap (λ b. cond b (get (nodes_of t) q) None) (sym (within q v s.1))
   by q None e = e ∙ missing q (is_within top q) (get (nodes_of t) q) e refl refl
 
--- the same of the map that gathers
-pub gather_begun : (t : NodeSlab) (key : ℕ) (node : Node) (old new : List (Bor (List ℕ) × Bor (List ℕ))) (k v : Bor (List ℕ)) → IsLinked t → node_at t key ≡ Some node → IsPart (nodes_in old) (nodes_of t) → k.now ≡ node.path.items → v.now ≡ node.value.items → new ≡ insert_entry (λ x y. order x.now y.now) old k v
+-- the same of the list that gathers
+pub gather_begun : (t : NodeSlab) (key : ℕ) (node : Node) (old new : List (Bor (List ℕ) × Bor (List ℕ))) (k v : List ℕ) → IsLinked t → node_at t key ≡ Some node → IsPart (nodes_in old) (nodes_of t) → k ≡ node.path.items → v ≡ node.value.items → lent new ≡ put order k v (lent old)
     → Gathers t node.path.items (nodes_in old) (nodes_in new) (values_of node.children.entries)
 gather_begun t key node old new k v linked at part path value is =
-    let into : insert (nodes_in old) node.path.items node.value.items ≡ nodes_in new = sym (insert-lent old new k v is ∙ ap (λ p. insert (nodes_in old) p v.now) path ∙ ap (λ w. insert (nodes_in old) node.path.items w) value) in
+    let into : insert (nodes_in old) node.path.items node.value.items ≡ nodes_in new = sym (insert-lent old new k v is ∙ ap (λ p. insert (nodes_in old) p v) path ∙ ap (λ w. insert (nodes_in old) node.path.items w) value) in
     let G : Nodes → Type 0 = λ m. Gathers t node.path.items (nodes_in old) m (values_of node.children.entries) in
     subst G into (gathered_first t key node (nodes_in old) (values_of node.children.entries) linked at part (λ name child found. child_listed name node.children.entries child found))

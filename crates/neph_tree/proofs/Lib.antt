@@ -13,6 +13,7 @@ pub mod LinkLemmas
 pub mod NodeLemmas
 pub mod OrderLemmas
 pub mod PlaceLemmas
+pub mod PutLemmas
 pub mod SearchLemmas
 pub mod TreeLemmas
 pub mod WalkLemmas

@@ -1,6 +1,7 @@
 //! The store's tree: a finite map from path to value, closed under parents.
 #![tactic(auto)]
 
+mod by_path;
 mod growth;
 mod hints;
 mod homes;

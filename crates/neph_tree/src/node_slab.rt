@@ -1,16 +1,18 @@
 // Nodes in a slab, linked by their keys.
-ghost use Rattle.std.specs.Prelude.{◌≡◌, ◌+◌, [], ℕ, List, true, false, not, is_some, Some, None, IfOk, IfNone, IfSome, OnOk, OnErr, if◌then◌else◌};
+ghost use Rattle.std.specs.Prelude.{◌≡◌, ◌+◌, [], T, ℕ, List, true, false, not, is_some, Some, None, IfOk, IfNone, IfSome, OnOk, OnErr, if◌then◌else◌};
 ghost use Rattle.std.specs.Option.{option_copied};
 ghost use Rattle.std.specs.Ordering.{nat_cmp};
 ghost use Rattle.std.specs.Cmp.Lexicographic.{slice_cmp};
 ghost use Rattle.std.specs.List.Sorted.{IsStrictlySortedBy};
 ghost use Rattle.std.specs.FinMap as map;
+ghost use Rattle.std.specs.FinMap.Entries.{is_sorted};
 ghost use Rattle.neph_base.specs.Path.{is_path};
 ghost use Rattle.neph_tree.specs.Entries.{lent, nodes_in};
 ghost use Rattle.neph_tree.specs.Growth.{with_added};
 ghost use Rattle.neph_tree.specs.Nodes.{IsTree, child_names, subtree, without};
 ghost use Rattle.neph_tree.specs.Places.{is_within, IsChild};
 
+use crate::by_path::put_by_path;
 use crate::hints::Hints;
 use crate::node::Node;
 use crate::node_map::copy_of;
@@ -18,7 +20,6 @@ use crate::places::{last_name, parent_and_name, top_of};
 use neph_base::{Bytes, Names, NoMemory};
 use slab::Slab;
 use std::alloc::Global;
-use std::collections::BTreeMap;
 
 #[derive(Drop)]
 pub(crate) struct NodeSlab {
@@ -342,11 +343,11 @@ impl NodeSlab {
         ensures { IfOk result (λ nodes.
             nodes.items ≡ map.entries (subtree (nodes_of self.now) top.now)) }
     {
-        let found = self.gathered(top)?;
+        let found = self.within(top)?;
         let mut nodes = Vec::with_capacity(self.alloc, found.len())?;
-        for (path, value) in found {
-            let path = copy_of(self.alloc, path)?;
-            let value = copy_of(self.alloc, value)?;
+        for node in &found {
+            let path = copy_of(self.alloc, node.0)?;
+            let value = copy_of(self.alloc, node.1)?;
             nodes.push((Bytes::of(path), Bytes::of(value)))?;
         }
         Ok(nodes)
@@ -358,21 +359,7 @@ impl NodeSlab {
         ensures { IfOk result (λ nodes.
             lent nodes.items ≡ map.entries (subtree (nodes_of self.now) top.now)) }
     {
-        let found = self.gathered(top)?;
-        let mut nodes = Vec::with_capacity(self.alloc, found.len())?;
-        for (path, value) in found {
-            nodes.push((path, value))?;
-        }
-        Ok(nodes)
-    }
-
-    // The same as a map.
-    fn gathered<'t>(&'t self, top: &[u8]) -> Result<BTreeMap<&'t [u8], &'t [u8]>, NoMemory>
-        requires { IsLinked self.now }
-        ensures { IfOk result (λ found.
-            nodes_in found.entries ≡ subtree (nodes_of self.now) top.now) }
-    {
-        let mut found = BTreeMap::new(self.alloc);
+        let mut found = Vec::new(self.alloc);
         match self.find(top_of(top)) {
             Some(key) => {
                 self.gather(key, &mut found)?;
@@ -382,23 +369,25 @@ impl NodeSlab {
         }
     }
 
-    // Adds the node at the key and all below it.
+    // Puts in the node at the key and all below it.
     fn gather<'t>(
         &'t self,
         key: usize,
-        found: &mut BTreeMap<&'t [u8], &'t [u8]>,
+        found: &mut Vec<(&'t [u8], &'t [u8])>,
     ) -> Result<(), NoMemory>
         requires linked { IsLinked self.now }
         requires there { is_some (node_at self.now key) ≡ true }
-        requires part { IsPart (nodes_in found.old.entries) (nodes_of self.now) }
-        ensures { OnOk result ((node : Node) → node_at self.now key ≡ Some node
-            → Gathers self.now node.path.items (nodes_in found.old.entries)
-            (nodes_in found.new.entries) []) }
+        requires part { IsPart (nodes_in found.old.items) (nodes_of self.now) }
+        requires sorted { T (is_sorted (slice_cmp nat_cmp) (lent found.old.items)) }
+        ensures gathers { OnOk result ((node : Node) → node_at self.now key ≡ Some node
+            → Gathers self.now node.path.items (nodes_in found.old.items)
+            (nodes_in found.new.items) []) }
+        ensures sorted { OnOk result (T (is_sorted (slice_cmp nat_cmp) (lent found.new.items))) }
     {
         let Some(node) = self.nodes.get(key) else {
             return Ok(());
         };
-        found.insert(&node.path, &node.value)?;
+        put_by_path(found, &node.path, &node.value)?;
         for (_, child) in node.children.iter() {
             self.gather(*child, found)?;
         }
