@@ -1,5 +1,10 @@
 -- Machines that stand for the states of a script's run, and their courses.
 use Rattle.std.proofs.Common.{◌≡◌, ℕ, ◌<◌, ◌+◌, ◌++◌, ◌||◌, ◌&&◌, ◌≤◌, arith, Bool, true, false, List, [], ◌∷◌, length, drop, refl, sym, ap, subst, ◌∙◌}
+use Rattle.std.proofs.lemmas.List.{append-nil}
+use Rattle.std.specs.declared.result.Result.{Result}
+use Rattle.std.specs.declared.result.Result.TheVariants.{Ok, Err}
+use Rattle.std.specs.Result.{IsErr}
+use Rattle.neph_base.specs.declared.memory.NoMemory.{NoMemory}
 use Rattle.neph_base.specs.declared.reply.Actor.{Actor}
 use Rattle.neph_base.specs.declared.reply.Actor.TheVariants.{Dom, Daemon}
 use Rattle.neph_base.specs.declared.reply.Noted.{Noted}
@@ -8,20 +13,21 @@ use Rattle.neph_model.specs.WellFormed.{IsWellFormed}
 use Rattle.neph_model.specs.Machine.{Shared, is_over}
 use Rattle.neph_model.specs.Step.{is_some_left}
 use Rattle.neph_model.specs.Books.{State}
-use Rattle.neph_model.specs.Turns.{nothing, turn, turns, round}
+use Rattle.neph_model.specs.Turns.{Done, nothing, turn, turns, round}
 use Rattle.neph_runs.specs.Orderly.{IsOrderly}
 use Rattle.neph_runs.specs.Work.{work_left}
 use Rattle.neph_pool.specs.Plain.{plain_world}
+use Rattle.neph_print.specs.Course.{Tells}
 use Rattle.neph_rows.specs.Live.{IsNoneLive, IsFirstLive}
 use Rattle.neph_machine.specs.declared.turn.Turn.{Turn}
 use Rattle.neph_machine.specs.Reached.{state_after}
 use Rattle.neph_machine.specs.StandsFor.{StandsFor}
-use Rattle.neph_machine.specs.Turned.{did_move, entry_of, IsRunning, Took, Lacked}
+use Rattle.neph_machine.specs.Turned.{did_move, entry_of, Took, Lacked}
 use Rattle.neph_machine.proofs.Reached.{reached}
 use Rattle.neph_turns.proofs.Work.{machine_left, work_is}
 use Rattle.neph_core.specs.declared.machine.Machine.{Machine}
-use Rattle.neph_core.specs.Course.{Course, Stands, Starts, course}
-use Rattle.neph_core.specs.Does.{Goes, Lacks}
+use Rattle.neph_core.specs.Course.{Course, Stands, Starts, course, entries_after}
+use Rattle.neph_core.specs.Does.{Goes, Lacks, GoesOrLacks}
 use Rattle.neph_core.specs.Plays.{EndsRun}
 use Rattle.neph_core.proofs.Courses.{SoFar, at_start, one_more, passes, ends, ends_over, ends_all, Reached, IsGoing, at_first, one_round, less_left, at_stall, at_end}
 use Rattle.neph_core.proofs.Passing.{backends, backends_rest, daemon_rests, round_from, round_is, one_of_round, none_live_passed, goes_on_live}
@@ -31,35 +37,56 @@ orderly : (s : Script) → IsWellFormed s → (before : List Actor) → IsOrderl
 orderly s well before = (reached s well before).sound.orderly
 
 module _ (old new : Machine) (before : List Actor) where
-  -- a turn of the machine over frames, whose entry was put behind the others
+  -- a turn of the machine over frames, whose entry the transcript tells behind the others
   pub goes : (a : Actor) (t : Turn) → Took plain_world old.frames new.frames (turn old.frames.script (state_after old.frames.script before) a) t
-      → new.history.items ≡ old.history.items ++ entry_of t
+      → Tells old.frames.script new.transcript (entries_after old.frames.script before ++ entry_of t)
       → Goes old new before (turn old.frames.script (state_after old.frames.script before) a) (did_move t)
-  goes a t took history = record {
-    after = a ∷ before;
-    stands = subst (λ (s : Script). StandsFor plain_world new.frames (state_after s (a ∷ before))) (sym took.script) took.stands;
-    does = record {
-      script = took.script;
-      state = ap (λ (s : Script). state_after s (a ∷ before)) took.script;
-      history = history ∙ ap (λ (xs : List Noted). old.history.items ++ xs) took.entry;
-      shares = took.shares;
-      told = took.moved;
-    };
-  }
+  goes a t took told =
+      let here : Tells old.frames.script new.transcript (entries_after old.frames.script (a ∷ before)) =
+      subst (λ (xs : List Noted). Tells old.frames.script new.transcript (entries_after old.frames.script before ++ xs)) took.entry told in
+      record {
+        after = a ∷ before;
+        stands = record {
+          frames = subst (λ (s : Script). StandsFor plain_world new.frames (state_after s (a ∷ before))) (sym took.script) took.stands;
+          tells = subst (λ (s : Script). Tells s new.transcript (entries_after s (a ∷ before))) (sym took.script) here;
+        };
+        does = record {
+          script = took.script;
+          state = ap (λ (s : Script). state_after s (a ∷ before)) took.script;
+          history = ap (λ (s : Script). entries_after s (a ∷ before)) took.script;
+          shares = took.shares;
+          told = took.moved;
+        };
+      }
 
   pub goes_as : (a : Actor) (t u : Turn) → t ≡ u → Took plain_world old.frames new.frames (turn old.frames.script (state_after old.frames.script before) a) t
-      → new.history.items ≡ old.history.items ++ entry_of u
+      → Tells old.frames.script new.transcript (entries_after old.frames.script before ++ entry_of u)
       → Goes old new before (turn old.frames.script (state_after old.frames.script before) a) (did_move u)
-  goes_as a t u e took history = goes a u (subst (Took plain_world old.frames new.frames (turn old.frames.script (state_after old.frames.script before) a)) e took) history
+  goes_as a t u e took told = goes a u (subst (Took plain_world old.frames new.frames (turn old.frames.script (state_after old.frames.script before) a)) e took) told
+
+  -- the same, where it made no entry
+  pub goes_quietly : (a : Actor) (t u : Turn) → t ≡ u → entry_of u ≡ [] → Took plain_world old.frames new.frames (turn old.frames.script (state_after old.frames.script before) a) t
+      → Tells old.frames.script new.transcript (entries_after old.frames.script before)
+      → Goes old new before (turn old.frames.script (state_after old.frames.script before) a) (did_move u)
+  goes_quietly a t u e none took told =
+      let entries = entries_after old.frames.script before in
+      goes_as a t u e took (subst (Tells old.frames.script new.transcript) (sym (ap (λ (xs : List Noted). entries ++ xs) none ∙ append-nil entries)) told)
 
   -- memory ran out
-  pub lacks : Lacked plain_world old.frames new.frames (state_after old.frames.script before) → new.history.items ≡ old.history.items → Lacks old new before
-  lacks lacked history = record {
-    stands = subst (λ (s : Script). StandsFor plain_world new.frames (state_after s before)) (sym lacked.script) lacked.stands;
-    same = ap (λ (s : Script). let c : Course = record { script = s; state = state_after s before; history = new.history.items; shares = plain_world.shares new.frames.pool } in c) lacked.script
-        ∙ ap (λ (xs : List Noted). let c : Course = record { script = old.frames.script; state = state_after old.frames.script before; history = xs; shares = plain_world.shares new.frames.pool } in c) history
-        ∙ ap (λ (n : ℕ). let c : Course = record { script = old.frames.script; state = state_after old.frames.script before; history = old.history.items; shares = n } in c) lacked.shares;
+  pub lacks : Lacked plain_world old.frames new.frames (state_after old.frames.script before) → Tells old.frames.script new.transcript (entries_after old.frames.script before) → Lacks old new before
+  lacks lacked told = record {
+    stands = record {
+      frames = subst (λ (s : Script). StandsFor plain_world new.frames (state_after s before)) (sym lacked.script) lacked.stands;
+      tells = subst (λ (s : Script). Tells s new.transcript (entries_after s before)) (sym lacked.script) told;
+    };
+    same = ap (λ (s : Script). let c : Course = record { script = s; state = state_after s before; history = entries_after s before; shares = plain_world.shares new.frames.pool } in c) lacked.script
+        ∙ ap (λ (n : ℕ). let c : Course = record { script = old.frames.script; state = state_after old.frames.script before; history = entries_after old.frames.script before; shares = n } in c) lacked.shares;
   }
+
+-- a turn that told so
+pub lacks_told : (old new : Machine) (before : List Actor) (done : Done) (r : Result Bool NoMemory) → IsErr r → Lacks old new before → GoesOrLacks old new before done r
+lacks_told old new before done (Err e) is lacked = lacked
+lacks_told old new before done (Ok moved) is lacked = absurd cc
 
 -- what the turns of some first actors did to a machine, before those of the rest
 pub record GoneOn (first : Machine) (before actors : List Actor) (now : Machine) (moved : Bool) (rest : List Actor) : Type 0 where
@@ -134,7 +161,7 @@ module _ (first now : Machine) (moved : Bool) (from : ℕ) (h : InRound first no
       → Goes first now before (turns first.frames.script (state_after first.frames.script before) round) moved
   none_waits waiting is e none =
       let g = past 64 h.low (omega arith) none in
-      let rests : is_some_left here.machine.shared.tables.waiting ≡ false = ap (λ (sh : Shared). is_some_left sh.tables.waiting) g.stands.shared ∙ sym is ∙ e in
+      let rests : is_some_left here.machine.shared.tables.waiting ≡ false = ap (λ (sh : Shared). is_some_left sh.tables.waiting) g.stands.frames.shared ∙ sym is ∙ e in
       stops_idle first before round now moved (round_from 64) g (daemon_rests first.frames.script here (ap (λ (b : Bool). b && true) rests))
 
   -- none where the run is over
@@ -147,14 +174,11 @@ pub record Rounded (s : Script) (m : Machine) : Type 0 where
   pub stands : Stands m before
   pub reached : Reached s (course m before)
 
-pub running : (s : Script) (m : Machine) → Rounded s m → IsRunning plain_world m.frames
-running s m h = (h.before, h.stands)
-
 pub first_round : (s : Script) (start now : Machine) (moved : Bool) → (h : Starts s start) → Goes start now [] (turns start.frames.script (state_after start.frames.script []) s.turns) moved → Rounded s now
 first_round s start now moved h goes = record {
   before = goes.after;
   stands = goes.stands;
-  reached = at_first s (course start []) (course now goes.after) moved h.script (ap (λ (x : Script). state_after x []) h.script) h.history h.shares goes.does;
+  reached = at_first s (course start []) (course now goes.after) moved h.script (ap (λ (x : Script). state_after x []) h.script) refl h.shares goes.does;
 }
 
 module _ (s : Script) (well : IsWellFormed s) (now next : Machine) (moved : Bool) (h : Rounded s now) (live : is_over (course now h.before).state.machine ≡ false)
@@ -173,7 +197,7 @@ module _ (s : Script) (well : IsWellFormed s) (now next : Machine) (moved : Bool
   }
 
   left_is : (m : Machine) (before : List Actor) → m.frames.script ≡ s → Stands m before → machine_left m.frames ≡ work_left s (course m before).state
-  left_is m before e stands = work_is plain_world m.frames (state_after m.frames.script before) stands ∙ ap (λ (x : Script). work_left x (course m before).state) e
+  left_is m before e stands = work_is plain_world m.frames (state_after m.frames.script before) stands.frames ∙ ap (λ (x : Script). work_left x (course m before).state) e
 
   pub less_is_left : moved ≡ true → machine_left next.frames < machine_left now.frames
   less_is_left e =

@@ -2,15 +2,13 @@
 ghost use Rattle.std.specs.Prelude.{◌≡◌, ◌<◌, IfOk, List};
 ghost use Rattle.neph_model.specs.WellFormed.{IsWellFormed};
 ghost use Rattle.neph_model.specs.Turns.{turns, round};
-ghost use Rattle.neph_pool.specs.Plain.{plain_world};
 ghost use Rattle.neph_machine.specs.Reached.{state_after};
-ghost use Rattle.neph_machine.specs.Turned.{IsRunning};
-ghost use Rattle.neph_core.specs.Course.{Stands};
+ghost use Rattle.neph_core.specs.Course.{IsRunning, Stands};
 ghost use Rattle.neph_core.specs.Does.{Goes};
 ghost use Rattle.neph_core.specs.Plays.{EndsRun};
 
 use crate::machine::Machine;
-use neph_base::{Actor, NoMemory};
+use neph_base::{Actor, NoMemory, TryClone};
 use neph_model::Script;
 use std::alloc::Global;
 
@@ -25,12 +23,13 @@ pub struct Played {
 
 /// Runs a script by turns: those that it gives, and then rounds, until no domain is live or a round
 /// does nothing.
-pub fn play(alloc: Global, s: &Script) -> Result<Played, NoMemory>
-    requires { IsWellFormed s.now }
-    ensures { IfOk result (λ p. EndsRun s.now p.machine p.stalled) }
+pub fn play(alloc: Global, s: Script) -> Result<Played, NoMemory>
+    requires { IsWellFormed s }
+    ensures { IfOk result (λ p. EndsRun s p.machine p.stalled) }
 {
+    let first = s.turns.try_clone()?;
     let mut machine = Machine::new(alloc, s)?;
-    let _first = take_turns(&mut machine, alloc, s.turns.items())?;
+    let _moved = take_turns(&mut machine, alloc, first.items())?;
     'rounds: while !machine.is_over() {
         if !take_round(&mut machine, alloc)? {
             return Ok(Played {
@@ -48,7 +47,7 @@ pub fn play(alloc: Global, s: &Script) -> Result<Played, NoMemory>
 // The turns of these actors in order, until no domain is live. Tells whether one did anything.
 fn take_turns(machine: &mut Machine, alloc: Global, actors: &[Actor]) -> Result<bool, NoMemory>
     requires formed { IsWellFormed machine.old.frames.script }
-    requires running { IsRunning plain_world machine.old.frames }
+    requires running { IsRunning machine.old }
     ensures { IfOk result (λ moved. (before : List Actor) → Stands machine.old before
         → Goes machine.old machine.new before (turns machine.old.frames.script
         (state_after machine.old.frames.script before) actors.now) moved) }
@@ -67,7 +66,7 @@ fn take_turns(machine: &mut Machine, alloc: Global, actors: &[Actor]) -> Result<
 // the daemon's where a clone waits for it: the others do nothing. Tells whether one did anything.
 fn take_round(machine: &mut Machine, alloc: Global) -> Result<bool, NoMemory>
     requires formed { IsWellFormed machine.old.frames.script }
-    requires running { IsRunning plain_world machine.old.frames }
+    requires running { IsRunning machine.old }
     ensures { IfOk result (λ moved. (before : List Actor) → Stands machine.old before
         → Goes machine.old machine.new before (turns machine.old.frames.script
         (state_after machine.old.frames.script before) round) moved) }

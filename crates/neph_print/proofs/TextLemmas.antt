@@ -21,17 +21,18 @@ grown s text more p at =
           rw (drop-append-le p.start text more (omega (arith, at.ordered, at.within)), take-append-le (p.end - p.start) (drop p.start text) more (omega (arith, at.within, length-drop p.start text))) (at.shown some);
     }
 
-behind : (text words : List ℕ) → take (length (text ++ words) - length text) (drop (length text) (text ++ words)) ≡ words
-behind text words =
-    ap (take (length (text ++ words) - length text)) (drop-append-le (length text) text words (omega arith) ∙ ap (λ (front : List ℕ). front ++ words) (drop_all (length text) text (omega arith)))
-    ∙ take_all _ words (omega (arith, length-append text words))
+-- words behind a text of this length
+pub behind : (text words : List ℕ) (n : ℕ) → n ≡ length text → take (length (text ++ words) - n) (drop n (text ++ words)) ≡ words
+behind text words n e =
+    ap (take (length (text ++ words) - n)) (drop-append-le n text words (omega (arith, e)) ∙ ap (λ (front : List ℕ). front ++ words) (drop_all n text (omega (arith, e))))
+    ∙ take_all _ words (omega (arith, e, length-append text words))
 
 latest : (s : Script) (text new : List ℕ) (p : TextPlace) → new ≡ text ++ line_text s p.program p.line → p.start ≡ length text → p.end ≡ length new → StandsAt s new p
 latest s text new p is from to =
     record {
       ordered = omega (arith, from, to, ap length is, length-append text (line_text s p.program p.line));
       within = omega (arith, to);
-      shown = λ some. rw (from, to, is) (behind text (line_text s p.program p.line));
+      shown = λ some. rw (to, is) (behind text (line_text s p.program p.line) p.start from);
     }
 
 -- a line's text behind the others has its place

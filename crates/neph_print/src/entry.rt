@@ -38,7 +38,7 @@ pub fn put_entry_line(
     requires { AreTexts s.now texts.old }
     ensures line { OnOk result (text.new.items
         ≡ text.old.items ++ entry_line s.now family entry.now reply.now) }
-    ensures texts { OnOk result (AreTexts s.now texts.new) }
+    ensures texts { AreTexts s.now texts.new }
 {
     match *entry {
         Entry::Line { dom, line } => {

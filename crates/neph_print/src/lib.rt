@@ -3,12 +3,12 @@
 
 mod command;
 mod entry;
+mod families;
 mod frames;
-mod history;
 mod texts;
-mod whole;
+mod transcript;
 
 pub use entry::entry_line;
 pub use frames::frames_line;
 pub use neph_model::FrameCounts;
-pub use whole::transcript;
+pub use transcript::Transcript;

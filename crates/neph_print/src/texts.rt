@@ -57,19 +57,27 @@ impl LineTexts {
         requires { AreTexts s.now self.old }
         ensures text { OnOk result (text.new.items ≡ text.old.items
             ++ line_text s.now (program_started (slice_get s.now.starts (family - 1))) line) }
-        ensures texts { OnOk result (AreTexts s.now self.new) }
+        ensures texts { AreTexts s.now self.new }
     {
         let program = program_of(s, family);
-        let at = line as usize % 512;
-        let place = self.places[at];
+        let place = self.places[line as usize % 512];
         if place.program == program && place.line == line && place.end > 0 {
             return put_word(text, &self.text[place.start..place.end]);
         }
+        let start = text.len();
+        put_line(text, s, program, line)?;
+        self.keep(program, line, &text[start..])
+    }
+
+    // Keeps the text of a program's line.
+    fn keep(&mut self, program: u8, line: u16, words: &[u8]) -> Result<(), NoMemory>
+        ensures { (s : Script) → words.now ≡ line_text s program line → AreTexts s self.old
+            → AreTexts s self.new }
+    {
         let start = self.text.len();
-        put_line(&mut self.text, s, program, line)?;
+        self.text.extend_from_slice(words)?;
         let end = self.text.len();
-        put_word(text, &self.text[start..end])?;
-        self.places[at] = TextPlace {
+        self.places[line as usize % 512] = TextPlace {
             program,
             line,
             start,

@@ -1,20 +1,27 @@
 -- What the parts of a call say together.
 use Rattle.std.proofs.Common.{◌≡◌, ◌+◌, ℕ, arith, Bool, List, Result, Ok, Err, sym, ap, subst, ◌∙◌, inl, inr}
+use Rattle.std.specs.Global.{Vec}
 use Rattle.std.specs.Io.KnownBytes.{Appends}
+use Rattle.std.specs.Result.{IfOk}
+use Rattle.neph_base.specs.declared.memory.NoMemory.{NoMemory}
+use Rattle.neph_base.specs.declared.reply.Actor.{Actor}
 use Rattle.neph_base.specs.declared.reply.Noted.{Noted}
 use Rattle.neph_model.specs.declared.script.Script.{Script}
 use Rattle.neph_model.specs.WellFormed.{IsWellFormed}
 use Rattle.neph_model.specs.Books.{State, counts}
 use Rattle.neph_model.specs.Run.{IsRun}
 use Rattle.neph_model.specs.Transcript.{transcript}
+use Rattle.neph_machine.specs.Reached.{state_after}
+use Rattle.neph_pool.specs.Plain.{plain_world}
 use Rattle.neph_runs.proofs.OneRun.{one_run}
 use Rattle.neph_runs.proofs.Runs as runs
 use Rattle.neph_runs.proofs.Lasting as lasting
 use Rattle.neph_runs.proofs.Legally as legally
 use Rattle.neph_runs.proofs.Copies as copies
-use Rattle.neph_core.specs.Course.{Course}
+use Rattle.neph_core.specs.declared.machine.Machine.{Machine}
+use Rattle.neph_core.specs.Course.{Course, Stands, course, entries_after}
 use Rattle.neph_core.specs.Does.{counted}
-use Rattle.neph_core.specs.Plays.{Plays}
+use Rattle.neph_core.specs.Plays.{Plays, EndsRun}
 use Rattle.neph_script.specs.declared.why.BadScript.{BadScript}
 use Rattle.neph_script.specs.Spells.{Spells, IsFault}
 use Rattle.neph_script.proofs.Inverse.{same_read}
@@ -48,6 +55,15 @@ pub tallies : (s : Script) (c : Course) (stalled : Bool) (text : List ℕ) (befo
     → Tallies s text before now
 unfolding transcribes
 tallies s c stalled text before now formed p is ended = record { transcribed = transcribes s c stalled text formed p is; raised = ended ∙ raised before c.shares p.ran.steps p.steps }
+
+-- what a machine gives up at the end of its run
+pub ends_tallied : (s : Script) (m : Machine) (stalled : Bool) (r : Result (Vec ℕ) NoMemory) (before now : ℕ) → IsWellFormed s → EndsRun s m stalled
+    → IfOk r (λ text. (gone : List Actor) → Stands m gone → text.items ≡ transcript m.frames.script (entries_after m.frames.script gone) (counts m.frames.script (state_after m.frames.script gone)) stalled)
+    → IfOk r (λ text. now ≡ counted (before + plain_world.shares m.frames.pool)) → IfOk r (λ text. Tallies s text.items before now)
+ends_tallied s m stalled (Err lacks) before now formed e is raised = raised
+ends_tallied s m stalled (Ok text) before now formed e is raised =
+    let here = subst (λ (x : Script). text.items ≡ transcript x (course m e.before).history (counts m.frames.script (course m e.before).state) stalled) e.plays.script (is e.before e.stands) in
+    tallies s (course m e.before) stalled text.items before now formed e.plays here raised
 
 -- the transcript of the script that the bytes spell is the one text
 transcript_of : (bytes text : List ℕ) (s : Script) → Spells bytes s → Transcribes s text → IsTranscript bytes text

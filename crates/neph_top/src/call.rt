@@ -6,10 +6,9 @@ ghost use Rattle.neph_top.specs.Call.{Called, Tallies, Tells, refusal_text, saw}
 use crate::status::Status;
 use itoa::Buffer;
 use neph_base::NoMemory;
-use neph_core::{Tally, play};
+use neph_core::{Played, Tally, play};
 use neph_io::{ReadEnd, Sink, Source, WriteFault, read_all, write_all};
 use neph_model::Script;
-use neph_print::transcript;
 use neph_script::{BadScript, ParseEnd, parse};
 use std::alloc::Global;
 
@@ -39,7 +38,7 @@ pub fn call<S: Source, K: Sink>(
             Err(NoMemory) => Status::NoMemory,
             Ok(text) => told(sink, &text, Status::Refused),
         },
-        Ok(script) => match text_of(alloc, &script, tally) {
+        Ok(script) => match text_of(alloc, script, tally) {
             Err(NoMemory) => Status::NoMemory,
             Ok(text) => told(sink, &text, Status::Ended),
         },
@@ -59,16 +58,12 @@ fn refusal_text(alloc: Global, bad: BadScript) -> Result<Vec<u8>, NoMemory>
 }
 
 // The transcript of a script's run. The tally is raised by the run's page steps.
-fn text_of(alloc: Global, script: &Script, tally: &mut Tally) -> Result<Vec<u8>, NoMemory>
-    requires { IsWellFormed script.now }
-    ensures { IfOk result (λ text. Tallies script.now text.items tally.old tally.new) }
+fn text_of(alloc: Global, script: Script, tally: &mut Tally) -> Result<Vec<u8>, NoMemory>
+    requires { IsWellFormed script }
+    ensures { IfOk result (λ text. Tallies script text.items tally.old tally.new) }
 {
-    let mut played = play(alloc, script)?;
-    let counts = played.machine.counts();
-    let history = played.machine.history();
-    let text = transcript(alloc, script, history, &counts, played.stalled)?;
-    played.machine.end(tally);
-    Ok(text)
+    let Played { machine, stalled } = play(alloc, script)?;
+    machine.end(stalled, tally)
 }
 
 // Writes a text, and answers this status where the sink took all of it.

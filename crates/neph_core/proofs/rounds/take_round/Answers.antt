@@ -25,14 +25,14 @@ domains-preserved c = record {
       let g = c.domains.invariant.gone before stands in
       let lt : c.in-Some.id < 64 = omega (arith, c.get-from.ensures.value, c.get-from.ensures.range) in
       next_domain c.args.machine.now c.domains.machine c.domains.moved c.domains.from c.domains.invariant before stands c.turn.new.self c.in_ok-moved.field-0 c.in-Some.id c.get-from.result
-      c.get-from.ensures.value lt (c.in-Some.ensures (state_after c.domains.machine.frames.script g.after) g.stands) (c.in_ok-moved.ensures g.after g.stands);
+      c.get-from.ensures.value lt (c.in-Some.ensures (state_after c.domains.machine.frames.script g.after) g.stands.frames) (c.in_ok-moved.ensures g.after g.stands);
 }
 
 pub domains-smaller : goal.domains-smaller
 domains-smaller c =
     let n = c.requires.running in
     let g = c.domains.invariant.gone n.0 n.1 in
-    let low = (c.in-Some.ensures (state_after c.domains.machine.frames.script g.after) g.stands).at in
+    let low = (c.in-Some.ensures (state_after c.domains.machine.frames.script g.after) g.stands.frames).at in
     omega (arith, low, c.get-from.ensures.value, c.get-from.ensures.range)
 
 pub turn-requires-then-not-is_over-clause-formed : goal.turn-requires-then-not-is_over-clause-formed
@@ -50,7 +50,7 @@ pub returns-in_ok-moved-2 : goal.returns-in_ok-moved-2
 returns-in_ok-moved-2 c = λ before stands.
     let g = c.domains.invariant.gone before stands in
     daemon_last c.args.machine.now c.domains.machine c.domains.moved c.domains.from c.domains.invariant before stands c.turn-then-not-is_over.new.self c.in_ok-moved-2.field-0
-    (c.in_default.ensures (state_after c.domains.machine.frames.script g.after) g.stands) (sym (c.is_over.ensures g.after g.stands) ∙ c.if-not-is_over.true) (c.in_ok-moved-2.ensures g.after g.stands)
+    (c.in_default.ensures (state_after c.domains.machine.frames.script g.after) g.stands.frames) (sym (c.is_over.ensures g.after g.stands) ∙ c.if-not-is_over.true) (c.in_ok-moved-2.ensures g.after g.stands)
 
 pub returns-else-not-is_over : goal.returns-else-not-is_over
 returns-else-not-is_over c = λ before stands.
@@ -61,4 +61,4 @@ pub returns-then-not-has_waiting : goal.returns-then-not-has_waiting
 returns-then-not-has_waiting c = λ before stands.
     let g = c.domains.invariant.gone before stands in
     none_waits c.args.machine.now c.domains.machine c.domains.moved c.domains.from c.domains.invariant before stands c.has_waiting.result c.has_waiting.ensures.value c.if-not-has_waiting.true
-    (c.in_default.ensures (state_after c.domains.machine.frames.script g.after) g.stands)
+    (c.in_default.ensures (state_after c.domains.machine.frames.script g.after) g.stands.frames)

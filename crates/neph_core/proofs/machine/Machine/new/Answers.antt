@@ -1,6 +1,5 @@
-use Rattle.std.proofs.Common.{◌<◌, List, ap, ◌∙◌, arith}
+use Rattle.std.proofs.Common.{List, ap, ◌∙◌}
 use Rattle.std.specs.declared.option.Option.{Option}
-use Rattle.neph_model.specs.declared.script.Script.{Script}
 use Rattle.neph_pool.specs.declared.entry.Entry.{Entry}
 use Rattle.neph_pool.specs.Entries.{hold_at}
 use Rattle.neph_pool.specs.Rows.{blank_entry}
@@ -14,6 +13,4 @@ boot-requires-clause-surveyed c = plain_surveyed
 pub boot-requires-clause-zero : goal.boot-requires-clause-zero
 unfolding blank_entry
 boot-requires-clause-zero c = λ f lt.
-    let same = ap (λ (s : Script). s.frames) c.in_ok-try_clone.ensures in
-    let small : f < c.args.s.now.frames = omega (arith, lt, same) in
-    ap (λ (es : List (Option Entry)). hold_at es f) c.in_ok-pool.ensures.entries ∙ hold_at-replicate c.args.s.now.frames f blank_entry small
+    ap (λ (es : List (Option Entry)). hold_at es f) c.in_ok-pool.ensures.entries ∙ hold_at-replicate c.args.s.frames f blank_entry lt

@@ -3,7 +3,7 @@ use Rattle.std.specs.List.{range_with_len}
 use Rattle.std.proofs.lemmas.List.{take_more_set, length-set, take_all}
 use Rattle.std.proofs.lemmas.List.FromFn.{map-range_with_len_more}
 use Rattle.neph_model.specs.Transcript.{start_families}
-use Rattle.neph_print.proofs.history.start_families.Goals as goal
+use Rattle.neph_print.proofs.families.start_families.Goals as goal
 
 same : (xs : List ℕ) → map (λ x. x) xs ≡ xs
 same [] = refl

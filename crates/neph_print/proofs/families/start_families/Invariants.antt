@@ -1,6 +1,6 @@
 use Rattle.std.proofs.Common.{◌≡◌, length, take}
 use Rattle.std.specs.List.{range_with_len}
-use Rattle.neph_print.proofs.history.start_families.Given as goal
+use Rattle.neph_print.proofs.families.start_families.Given as goal
 
 abbrev pub invariant-loop-id : goal.invariant-loop-id
 invariant-loop-id l =
