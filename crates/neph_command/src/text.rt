@@ -15,13 +15,16 @@ pub fn put_word(text: &mut Vec<u8>, word: &[u8]) -> Result<(), NoMemory>
 }
 
 /// Puts a number in decimal.
-#[tactic(auto, using(std::proofs::lemmas::Fmt::decimal_digit))]
+#[tactic(auto, using(std::proofs::lemmas::Fmt::decimal_digit, crate::proofs::Numerals::two_digits))]
 pub fn put_number(text: &mut Vec<u8>, n: u32) -> Result<(), NoMemory>
     ensures { OnOk result (text.new.items ≡ text.old.items ++ decimal n) }
 {
     if n < 10 {
         text.push(b'0' + n as u8)?;
         return Ok(());
+    }
+    if n < 100 {
+        return put_word(text, &[b'0' + (n / 10) as u8, b'0' + (n % 10) as u8]);
     }
     let mut digits = Buffer::new();
     put_word(text, digits.format(n).as_bytes())
