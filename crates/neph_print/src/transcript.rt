@@ -13,6 +13,10 @@ use neph_command::put_word;
 use neph_model::{FrameCounts, Script};
 use std::alloc::Global;
 
+// The bytes that are set aside for a transcript at its start, so that it seldom moves: some ten
+// thousand lines.
+const ROOM: usize = 1 << 20;
+
 /// The transcript of a run in its course. The lines of its entries are put as the entries come; that
 /// of the latest waits until there is memory for it.
 #[derive(Drop)]
@@ -36,8 +40,10 @@ impl Transcript {
     pub fn new(alloc: Global) -> Result<Transcript, NoMemory>
         ensures { IfOk result (λ t. (s : Script) → Tells s t []) }
     {
+        let mut text = Vec::with_capacity(alloc, ROOM)?;
+        put_word(&mut text, b"transcript 1\n")?;
         Ok(Transcript {
-            text: Vec::from_slice(alloc, b"transcript 1\n")?,
+            text,
             line: Vec::new(alloc),
             families: start_families(),
             texts: LineTexts::none(alloc),
