@@ -16,7 +16,7 @@ pub use command::{Command, Mode, Who};
 pub use list::{Bytes, List, Message, Name, Names, Text, TryClone};
 pub use memory::NoMemory;
 pub use number_map::NumberMap;
-pub use numbers::{DomId, FrameNo, GrantRef, Handle, Pfn, Port, VAddr, Vpn};
+pub use numbers::{DomId, FrameNo, GrantRef, Handle, PageOffset, Pfn, Port, VAddr, Vpn};
 pub use packet::Packet;
 pub use path::{Path, SLASH, XENSTORE_ABS_PATH_MAX};
 pub use piece::Piece;

@@ -174,6 +174,43 @@ impl VAddr {
     }
 }
 
+/// An offset in a page, 0 to 4095.
+#[derive(Clone, Copy, Debug, PartialEq, Eq, PartialOrd, Ord)]
+pub struct PageOffset {
+    number: u32,
+}
+
+impl Model for PageOffset {
+    ghost Value = { ℕ };
+
+    ghost view = { λ a. a.number };
+
+    ghost invariant = { λ a. a.number < 4096 };
+
+    ghost inverse = { λ n. record { number = n } };
+}
+
+impl PageOffset {
+    /// The number, `None` exactly out of range.
+    pub fn new(n: u32) -> Option<Self>
+        ensures { SomeIff result (n < 4096) n }
+    {
+        if n < 4096 {
+            Some(PageOffset { number: n })
+        } else {
+            None
+        }
+    }
+
+    /// The number itself.
+    pub fn get(self) -> u32
+        ensures value { result ≡ self }
+        ensures range { result < 4096 }
+    {
+        self.number
+    }
+}
+
 /// The number of a frame of the machine, 0 to 16383 (Xen's machine frame number). A frame has 4096
 /// bytes.
 #[derive(Clone, Copy, Debug, PartialEq, Eq, PartialOrd, Ord)]

@@ -57,6 +57,16 @@ pub enum Refusal {
     PolicyP9,
     /// The clone needs more frames than are free.
     Frames { need: u32, free: u32 },
+    /// The granter has no such entry, or was never live.
+    NoEntry,
+    /// The entry lets in other domains.
+    NotYours,
+    /// The granter has ended.
+    Gone,
+    /// Every handle is held.
+    HandlesFull,
+    /// The handle isn't held.
+    NoHandle,
 }
 
 /// What an entry was answered.
