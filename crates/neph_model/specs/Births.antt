@@ -3,7 +3,7 @@ use Rattle.std.specs.Prelude.{ℕ, Bool, true, false, ◌+◌, List, [], ◌∷�
 use Rattle.std.specs.Option.{option_map_or}
 use Rattle.std.specs.FinMap as fm
 use Rattle.neph_model.specs.Memory.{zero_page, page_with_identity, child_network_page}
-use Rattle.neph_model.specs.Machine.{Own, Life, Cloned, Exposed, Shared, no_guest, life_at, guest_at, put_guest, exposed_at}
+use Rattle.neph_model.specs.Machine.{Own, Life, Guest, Cloned, Exposed, Shared, no_guest, life_at, guest_at, put_guest, exposed_at}
 use Rattle.neph_model.specs.Own.{page_of, with_page}
 
 -- no page is known to be a domain's alone
@@ -44,6 +44,10 @@ child_exposed exposed =
     let network = with_changed console 2 child_network_page in
     with_changed network 3 (λ page. zero_page)
 
+-- what is kept of a child: its parent's grants, and none of its handles
+abbrev pub child_guest : Guest → Guest
+child_guest g = record no_guest { grants = g.grants }
+
 -- the shared half behind the commit of this child: the child is live, and waits with its parent for
 -- the second stage
 abbrev pub commit : Shared → ℕ → ℕ → List ℕ → Shared
@@ -53,7 +57,7 @@ commit sh id child left =
     record {
       lives = slice_set sh.lives child
           (option_map (λ (l : Life). record l { parent = id }) (life_at id sh.lives));
-      tables = record (put_guest child no_guest (put_guest id (record g { begun = left }) t))
+      tables = record (put_guest child (child_guest g) (put_guest id (record g { begun = left }) t))
           { waiting = t.waiting ++ record { parent = id; child = child } ∷ [] };
       pages = slice_set sh.pages child (child_exposed (exposed_at id sh.pages));
     }

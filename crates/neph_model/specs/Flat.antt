@@ -3,6 +3,8 @@ use Rattle.std.specs.Prelude.{ℕ, Bool, List, Option, unwrap_or, option_map, ma
 use Rattle.std.specs.List.{range_with_len}
 use Rattle.std.specs.Ordering.{nat_cmp}
 use Rattle.std.specs.FinMap as fm
+use Rattle.neph_grant.specs.Table.{Grants}
+use Rattle.neph_grant.specs.Handles.{Mappings}
 use Rattle.neph_model.specs.declared.memory.Mapping.{Mapping}
 use Rattle.neph_model.specs.Machine.{Life, Machine, own_at, life_at, guest_at}
 use Rattle.neph_model.specs.Own.{page_of}
@@ -22,6 +24,8 @@ pub record Domain : Type 0 where
   pub pages : List (List ℕ)
   pub vmap : fm.FinMap nat_cmp Mapping
   pub leaves : List ℕ
+  pub grants : Grants
+  pub handles : Mappings
 
 -- a page of a domain, whichever half has it
 abbrev pub flat_page : Machine → ℕ → ℕ → List ℕ
@@ -44,6 +48,8 @@ flat_domain m id l =
       pages = map (flat_page m id) (range_with_len 0 l.size);
       vmap = o.vmap;
       leaves = o.leaves;
+      grants = (guest_at id m.shared.tables).grants;
+      handles = (guest_at id m.shared.tables).handles;
     }
 
 -- the domain of an id, where it is live

@@ -1,5 +1,6 @@
 -- Laws of the plain machine, its histories and its runs.
 use Rattle.std.specs.Prelude.{ℕ, ◌≡◌, ◌≢◌, ◌≤◌, ◌<◌, ◌+◌, ◌%◌, ◌⊎◌, true, false, not, is_some, length, take, drop, All, List, [], ◌∷◌, ◌++◌, Option, Some, IfSome, slice_index_or, ⊤}
+use Rattle.std.specs.FinMap as fm
 use Rattle.neph_base.specs.declared.command.Command.{Command}
 use Rattle.neph_base.specs.declared.command.Command.TheVariants as command
 use Rattle.neph_base.specs.declared.command.Mode.TheVariants.{Rw}
@@ -165,6 +166,8 @@ pub record IsChild (id parent : ℕ) (p c : Domain) : Type 0 where
   pub clones : c.accepted ≡ 0
   pub vmap : c.vmap ≡ p.vmap
   pub leaves : c.leaves ≡ p.leaves
+  pub grants : c.grants ≡ p.grants
+  pub handles : c.handles ≡ fm.empty
   pub count : length c.pages ≡ length p.pages
   pub identity : 0 < length p.pages
       → slice_index_or c.pages 0 [] ≡ page_with_identity (slice_index_or p.pages 0 []) id parent

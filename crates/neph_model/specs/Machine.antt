@@ -46,7 +46,7 @@ no_own = record {
 
 -- what is kept of an id that has no domain
 abbrev pub no_guest : Guest
-no_guest = record { accepted = 0; begun = [] }
+no_guest = record { accepted = 0; begun = []; grants = map.empty; handles = map.empty }
 
 -- the own half of an id
 abbrev pub own_at : ℕ → List Own → Own
@@ -95,6 +95,10 @@ program_of life = option_map_or (λ (l : Life). l.program) life 0
 -- the number of the program that the domain of an id runs
 abbrev pub program_run : ℕ → List (Option Life) → ℕ
 program_run id lives = program_of (life_at id lives)
+
+-- the parent of a domain that was born so
+abbrev pub parent_of : Option Life → ℕ
+parent_of life = option_map_or (λ (l : Life). l.parent) life 0
 
 -- the number of pages of a domain that was born so
 abbrev pub size_of : Option Life → ℕ

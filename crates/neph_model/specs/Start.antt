@@ -5,11 +5,12 @@ use Rattle.std.specs.Ordering.{nat_cmp}
 use Rattle.std.specs.FinMap as fm
 use Rattle.neph_base.specs.declared.command.Mode.{Mode}
 use Rattle.neph_base.specs.declared.command.Mode.TheVariants.{Ro, Rw}
+use Rattle.neph_grant.specs.Table.{device_grants}
 use Rattle.neph_model.specs.declared.script.Script.{Script}
 use Rattle.neph_model.specs.declared.script.Start.{Start}
 use Rattle.neph_model.specs.declared.memory.Mapping.{Mapping}
 use Rattle.neph_model.specs.Memory.{zero_page, page_with_identity}
-use Rattle.neph_model.specs.Machine.{Own, Life, Exposed, Machine, no_own, no_guest}
+use Rattle.neph_model.specs.Machine.{Own, Life, Guest, Exposed, Machine, no_own, no_guest}
 
 -- the groups of 512 pages that some first pages begin
 abbrev pub started_512s : ℕ → ℕ
@@ -61,6 +62,10 @@ start_life n t = record {
   size = t.pages;
 }
 
+-- what is kept of it: its device pages are granted to domain 0
+abbrev pub start_guest : Guest
+start_guest = record no_guest { grants = device_grants }
+
 -- something of each of some domain lines, the first of which has this number
 abbrev pub of_starts : {X : Type 0} → (ℕ → Start → X) → ℕ → List Start → List X
 of_starts f n [] = []
@@ -79,7 +84,7 @@ start_machine s =
           record {
             lives = places None (λ n t. Some (start_life n t)) s.starts;
             tables = record {
-              guests = replicate 64 no_guest;
+              guests = places no_guest (λ n t. start_guest) s.starts;
               next = 1 + length s.starts;
               waiting = [];
             };

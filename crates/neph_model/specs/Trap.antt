@@ -1,6 +1,7 @@
 -- The hypervisor's calls: the rows of the commands under the lock, on the shared half and what the
 -- own half lends.
-use Rattle.std.specs.Prelude.{ℕ, Bool, false, if◌then◌else◌, ◌+◌, ◌%◌, nat_lt, nat_le, List, [], ◌∷◌, ◌++◌, take, drop, Option, None, Some, is_some, Result, Ok, Err, slice_set, unwrap_or}
+use Rattle.std.specs.Prelude.{ℕ, Bool, false, if◌then◌else◌, ◌&&◌, not, ◌==◌, ◌+◌, ◌%◌, nat_lt, nat_le, List, [], ◌∷◌, ◌++◌, take, drop, Option, None, Some, is_some, Result, Ok, Err, slice_set, unwrap_or}
+use Rattle.std.specs.List.{list_any}
 use Rattle.std.specs.Option.{option_map_or}
 use Rattle.std.specs.FinMap as fm
 use Rattle.neph_base.specs.declared.command.Command.{Command}
@@ -11,11 +12,17 @@ use Rattle.neph_base.specs.declared.reply.Reply.{Reply}
 use Rattle.neph_base.specs.declared.reply.Reply.TheVariants as reply
 use Rattle.neph_base.specs.declared.reply.Refusal.{Refusal}
 use Rattle.neph_base.specs.declared.reply.Refusal.TheVariants as refusal
+use Rattle.neph_grant.specs.declared.entry.GrantEntry.{GrantEntry}
+use Rattle.neph_grant.specs.declared.handles.GrantMapping.{GrantMapping}
+use Rattle.neph_grant.specs.declared.faults.MapRefused.{MapRefused}
+use Rattle.neph_grant.specs.declared.faults.MapRefused.TheVariants.{NoEntry, NotYours}
+use Rattle.neph_grant.specs.Handles.{Mappings, free_handle, with_mapping}
+use Rattle.neph_grant.specs.Table.{admit_answer}
 use Rattle.neph_model.specs.declared.memory.Mapping.{Mapping}
 use Rattle.neph_model.specs.declared.told.Told.{Told}
 use Rattle.neph_model.specs.declared.told.Told.TheVariants.{Enough, Short, Free}
 use Rattle.neph_model.specs.Memory.{page_with_bytes}
-use Rattle.neph_model.specs.Machine.{Life, Guest, Tables, Exposed, Shared, exposed_at, life_at, put_guest}
+use Rattle.neph_model.specs.Machine.{Life, Guest, Tables, Exposed, Shared, exposed_at, guest_at, is_live, life_at, parent_of, put_guest}
 use Rattle.neph_model.specs.Lent.{Lent, PageBack}
 
 -- what a call that is accepted leaves: the tables and the exposed pages behind it, its reply, and a
@@ -111,6 +118,72 @@ clone_call sh id g (Some why) = Err why
 clone_call sh id g None = answers (record sh { tables = begin_clone sh.tables id g })
     (reply.Begun sh.tables.next)
 
+-- a clone that was begun and isn't committed has this child
+abbrev pub is_begun : Tables → ℕ → Bool
+is_begun t id = list_any (λ (g : Guest). list_any (λ child. child == id) g.begun) t.guests
+
+-- the domain of this id was live, and has ended
+abbrev pub has_ended : Shared → ℕ → Bool
+has_ended sh id = nat_lt 0 id && (nat_lt id sh.tables.next
+    && (not (is_live id sh.lives) && not (is_begun sh.tables id)))
+
+-- the shared half with these handles of a domain
+abbrev pub with_handles : Shared → ℕ → Guest → Mappings → Shared
+with_handles sh id g m = record sh { tables = put_guest id (record g { handles = m }) sh.tables }
+
+-- an entry with this mode is mapped at this handle, if any is free
+abbrev pub map_at : Shared → ℕ → Guest → ℕ → ℕ → Mode → Option ℕ → CallResult
+map_at sh id g granter r mode None = Err refusal.HandlesFull
+map_at sh id g granter r mode (Some h) =
+    answers (with_handles sh id g (with_mapping g.handles h granter r mode)) (reply.Number h)
+
+-- `gmap` of an entry of a granter that hasn't ended. Who was never live has no entries.
+abbrev pub map_entry : Shared → ℕ → Guest → ℕ → ℕ → CallResult
+map_entry sh id g granter r = by (admit_answer (guest_at granter sh.tables).grants r id
+    (parent_of (life_at id sh.lives)) granter) where
+      by : Result (ℕ × Mode) MapRefused → CallResult
+      by (Err NoEntry) = Err refusal.NoEntry
+      by (Err NotYours) = Err refusal.NotYours
+      by (Ok (pfn, mode)) = map_at sh id g granter r mode (free_handle g.handles)
+
+-- `gmap`
+abbrev pub gmap_call : Shared → ℕ → Guest → ℕ → ℕ → CallResult
+gmap_call sh id g granter r =
+    if has_ended sh granter then Err refusal.Gone else map_entry sh id g granter r
+
+-- `gunmap`
+abbrev pub gunmap_call : Shared → ℕ → Guest → ℕ → CallResult
+gunmap_call sh id g h = if is_some (fm.get g.handles h)
+    then answers (with_handles sh id g (fm.remove g.handles h)) reply.Done
+    else Err refusal.NoHandle
+
+-- The page of its granter that a handle maps, which is exposed. None is left where the granter has
+-- ended.
+abbrev pub mapped_page : Shared → GrantMapping → Option ℕ
+mapped_page sh m = by (fm.get (guest_at m.granter sh.tables).grants m.reference) where
+  by : Option GrantEntry → Option ℕ
+  by None = None
+  by (Some e) = if is_exposed sh.pages m.granter e.pfn then Some e.pfn else None
+
+-- `hr` of n bytes by a handle that maps this
+abbrev pub hr_call : Shared → ℕ → ℕ → Option GrantMapping → CallResult
+hr_call sh at n None = Err refusal.NoHandle
+hr_call sh at n (Some m) = by (mapped_page sh m) where
+  by : Option ℕ → CallResult
+  by None = Err refusal.Gone
+  by (Some pfn) = answers sh
+      (reply.Bytes (take n (drop at (exposed_bytes sh.pages m.granter pfn))))
+
+-- `hw` by a handle that maps this
+abbrev pub hw_call : Shared → ℕ → List ℕ → Option GrantMapping → CallResult
+hw_call sh at bytes None = Err refusal.NoHandle
+hw_call sh at bytes (Some m) = by (mapped_page sh m) m.mode where
+  by : Option ℕ → Mode → CallResult
+  by None mode = Err refusal.Gone
+  by (Some pfn) Ro = Err refusal.ReadOnly
+  by (Some pfn) Rw = answers
+      (record sh { pages = with_exposed_bytes sh.pages m.granter pfn at bytes }) reply.Done
+
 -- What a command of a domain asks of the hypervisor, by its rules. A local command asks only where
 -- no frame is left.
 abbrev pub trap : Shared → ℕ → Guest → Lent → Told → Command → CallResult
@@ -120,6 +193,10 @@ trap sh id g l told command.Free = answers sh (reply.Number (free_told told))
 trap sh id g l told command.Clone =
     clone_call sh id g (clone_refusal sh.tables g (life_at id sh.lives)
     (need (exposed_at id sh.pages) l.leaves) told)
+trap sh id g l told (command.Gmap granter r) = gmap_call sh id g granter r
+trap sh id g l told (command.Gunmap h) = gunmap_call sh id g h
+trap sh id g l told (command.Hr h at len) = hr_call sh at len (fm.get g.handles h)
+trap sh id g l told (command.Hw h at bytes) = hw_call sh at bytes (fm.get g.handles h)
 trap sh id g l told _ = Err refusal.NoFrame
 
 -- a command that a domain can't do yet: none of today's waits for anything

@@ -1,7 +1,7 @@
 -- What the machine needs of a script. It holds of each that can be spelled.
 use Rattle.std.specs.Prelude.{ℕ, sum_by, ◌+◌, ◌%◌, ◌<◌, ◌≤◌, length, ⊤, All, List}
 use Rattle.neph_base.specs.declared.command.Command.{Command}
-use Rattle.neph_base.specs.declared.command.Command.TheVariants.{W, R, Jump, JChild, JFail}
+use Rattle.neph_base.specs.declared.command.Command.TheVariants.{W, R, Jump, JChild, JFail, Hr, Hw}
 use Rattle.neph_model.specs.declared.script.Script.{Script}
 use Rattle.neph_model.specs.declared.script.Program.{Program}
 use Rattle.neph_model.specs.declared.script.Label.{Label}
@@ -13,6 +13,8 @@ use Rattle.neph_model.specs.Start.{started_512s}
 abbrev pub FitsPage : Command → Type 0
 FitsPage (W addr bytes) = addr % 4096 + length bytes ≤ 4096
 FitsPage (R addr len) = (0 < len) × (len ≤ 64) × (addr % 4096 + len ≤ 4096)
+FitsPage (Hr h offset len) = (0 < len) × (len ≤ 64) × (offset + len ≤ 4096)
+FitsPage (Hw h offset bytes) = offset + length bytes ≤ 4096
 FitsPage _ = ⊤
 
 -- the label at this place is one of these, and stands after this line

@@ -1,5 +1,6 @@
 // What the hypervisor keeps of domains.
 use neph_base::{DomId, List};
+use neph_grant::{GrantTable, Handles};
 
 /// What a live domain was born as, which never changes.
 #[derive(Clone, Copy, Debug, PartialEq, Eq)]
@@ -23,6 +24,10 @@ pub struct Guest {
     pub accepted: u8,
     /// The children of the clones that it has begun and not committed.
     pub begun: List<DomId>,
+    /// The entries by which it lets others at its pages.
+    pub grants: GrantTable,
+    /// The entries of others that it has mapped.
+    pub handles: Handles,
 }
 
 /// A committed clone that waits for its second stage, while parent and child are paused.
