@@ -36,6 +36,7 @@ use Rattle.neph_model.specs.Births.{child_own, child_exposed, parent_own, with_c
 use Rattle.neph_model.specs.Step.{Outcome, actor, own_step, lends, child_made, bear, call_effect, shared_line, shared_commit, shared_join, locked_step, step}
 use Rattle.neph_model.specs.Laws.{IsApart, StaysApart}
 use Rattle.neph_laws.proofs.Local.{local_alone, locked_is}
+use Rattle.neph_laws.proofs.HandleRows.{IsOfHandles, handle_row, pages_behind, again, written_there}
 
 -- the pages of one domain are each in one half
 abbrev One : List (Option (List ℕ)) → Exposed → Type 0
@@ -59,21 +60,6 @@ put_page pages p pfn y lt =
       | false ↦ λ e. ap is_some (get_or-set_other pages p pfn y None (eqb-false pfn p e))
     ] refl
 
-some_cond : (b : Bool) (x : List ℕ) (o : Option (List ℕ)) → is_some (cond b (Some x) o) ≡ cond b true (is_some o)
-some_cond true x o = refl
-some_cond false x o = refl
-
--- exposed pages with one more, or without one
-with_one : (ps : Exposed) (p pfn : ℕ) (x : List ℕ) → is_some (fm.get (fm.insert ps p x) pfn) ≡ cond (pfn == p) true (is_some (fm.get ps pfn))
-with_one ps p pfn x = ap is_some (fm.get-insert nat_cmp_total ps p x pfn) ∙ some_cond (eq_by_cmp nat_cmp pfn p) x (fm.get ps pfn) ∙ ap (λ b. cond b true (is_some (fm.get ps pfn))) (unsigned_tied pfn p)
-
--- exposed pages with one with_changed that is there
-again : (ps : Exposed) (p pfn : ℕ) (x : List ℕ) → is_some (fm.get ps p) ≡ true → is_some (fm.get (fm.insert ps p x) pfn) ≡ is_some (fm.get ps pfn)
-again ps p pfn x has = with_one ps p pfn x ∙ elim (pfn == p) as (λ b. pfn == p ≡ b → cond b true (is_some (fm.get ps pfn)) ≡ is_some (fm.get ps pfn)) [
-  | true ↦ λ e. rw (eqb-true pfn p e) (sym has)
-  | false ↦ λ e. refl
-] refl
-
 rewritten_there : (ps : Exposed) (p pfn : ℕ) (f : List ℕ → List ℕ) → is_some (fm.get (with_changed ps p f) pfn) ≡ is_some (fm.get ps pfn)
 rewritten_there ps p pfn f = at (fm.get ps p) refl where
   at : (o : Option (List ℕ)) → fm.get ps p ≡ o → is_some (fm.get (option_map_or (λ page. fm.insert ps p (f page)) o ps) pfn) ≡ is_some (fm.get ps pfn)
@@ -92,10 +78,17 @@ child_one child id o ps one pfn lt =
     let kept : is_some (fm.get (child_exposed ps) pfn) ≡ is_some (fm.get ps pfn) = rewritten_there second 3 pfn (λ _. zero_page) ∙ rewritten_there first 2 pfn child_network_page ∙ rewritten_there ps 1 pfn (λ _. zero_page) in
     same_one o.pages 0 (option_map _ (own.page_of o 0)) ps (mapped_there _ (own.page_of o 0)) one pfn lt ∙ ap not (sym kept)
 
--- a call keeps the pages of its domain in one half each, and the exposed pages of the others
+-- these are exposed where those are
+abbrev Same : Exposed → Exposed → Type 0
+Same ps qs = (pfn : ℕ) → is_some (fm.get qs pfn) ≡ is_some (fm.get ps pfn)
+
+one_as : (own : List (Option (List ℕ))) (ps qs : Exposed) → Same ps qs → One own ps → One own qs
+one_as own ps qs same one pfn lt = one pfn lt ∙ ap not (sym (same pfn))
+
+-- a call keeps the pages of its domain in one half each, and which pages of the others are exposed
 abbrev Kept : Shared → ℕ → Own → Command → trap.CallResult → Type 0
 Kept sh id o c (Err why) = One (own_behind o c (Refused why) None).pages (exposed_at id sh.pages)
-Kept sh id o c (Ok t) = One (own_behind o c t.reply t.back).pages (exposed_at id t.pages) × ((k : ℕ) → k ≢ id → exposed_at k t.pages ≡ exposed_at k sh.pages) × (length t.pages ≡ length sh.pages)
+Kept sh id o c (Ok t) = One (own_behind o c t.reply t.back).pages (exposed_at id t.pages) × ((k : ℕ) → k ≢ id → Same (exposed_at k sh.pages) (exposed_at k t.pages)) × (length t.pages ≡ length sh.pages)
 
 either : (sh : Shared) (id : ℕ) (o : Own) (c : Command) (b : Bool) (x y : trap.CallResult) → (b ≡ true → Kept sh id o c x) → (b ≡ false → Kept sh id o c y) → Kept sh id o c (cond b x y)
 either sh id o c true x y f g = f refl
@@ -118,7 +111,7 @@ module _ (sh : Shared) (id : ℕ) (g : Guest) (o : Own) (within : id < length sh
       let x = page_with_bytes (trap.exposed_bytes sh.pages id pfn) at bytes in
       let ps = fm.insert (exposed_at id sh.pages) pfn x in
       either sh id o (command.W addr all) (trap.is_exposed sh.pages id pfn) _ _
-      (λ has. (subst (One (own_behind o (command.W addr all) reply.Done None).pages) (sym (mine ps)) (subst (λ l. One l ps) (sym (shown_pages o (own.mapping_at o addr))) (λ q lt. one q lt ∙ ap not (sym (again (exposed_at id sh.pages) pfn q x has)))), others ps, length-set sh.pages id ps))
+      (λ has. (subst (One (own_behind o (command.W addr all) reply.Done None).pages) (sym (mine ps)) (subst (λ l. One l ps) (sym (shown_pages o (own.mapping_at o addr))) (λ q lt. one q lt ∙ ap not (sym (again (exposed_at id sh.pages) pfn q x has)))), λ k far q. ap (λ (v : Exposed). is_some (fm.get v q)) (others ps k far), length-set sh.pages id ps))
       (λ e. one)
 
   kept_shown : (addr : ℕ) (all : List ℕ) (at : ℕ) (bytes : List ℕ) (shown : Option Mapping) → Kept sh id o (command.W addr all) (trap.w_call sh id at bytes shown)
@@ -126,14 +119,30 @@ module _ (sh : Shared) (id : ℕ) (g : Guest) (o : Own) (within : id < length sh
   kept_shown addr all at bytes (Some x) = kept_wrote addr all at bytes x.pfn x.mode
 
   kept_cloned : (why : Option Refusal) → Kept sh id o command.Clone (trap.clone_call sh id g why)
-  kept_cloned None = (one, λ k far. refl, refl)
+  kept_cloned None = (one, λ k far pfn. refl, refl)
   kept_cloned (Some why) = one
+
+  kept_handles : (l : Lent) (told : Told) (c : Command) → IsOfHandles c → Kept sh id o c (trap.trap sh id g l told c)
+  kept_handles l told c is =
+      let mine : (answer : Reply) (ps : Exposed) → Same (exposed_at id sh.pages) ps → One (own_behind o c answer None).pages ps = λ answer ps same.
+      subst (λ own. One own ps) (sym (pages_behind o c answer is)) (one_as o.pages (exposed_at id sh.pages) ps same one) in
+      handle_row sh id g (Kept sh id o c) (λ why plain. mine (Refused why) (exposed_at id sh.pages) (λ pfn. refl))
+      (λ bytes. (mine (reply.Bytes bytes) (exposed_at id sh.pages) (λ pfn. refl), λ k far pfn. refl, refl))
+      (λ m h. (mine (reply.Number h) (exposed_at id sh.pages) (λ pfn. refl), λ k far pfn. refl, refl))
+      (λ m. (mine reply.Done (exposed_at id sh.pages) (λ pfn. refl), λ k far pfn. refl, refl))
+      (λ granter pfn at bytes there.
+      let same = written_there sh.pages granter pfn at bytes there in
+      (mine reply.Done _ (same id), λ k far. same k, length-set sh.pages granter _)) l told c is
 
   kept : (l : Lent) (told : Told) (c : Command) → Kept sh id o c (trap.trap sh id g l told c)
   kept l told (command.W addr bytes) = kept_shown addr bytes (addr % 4096) bytes l.met
-  kept l told (command.R addr len) = (one, λ k far. refl, refl)
-  kept l told command.Free = (one, λ k far. refl, refl)
+  kept l told (command.R addr len) = (one, λ k far pfn. refl, refl)
+  kept l told command.Free = (one, λ k far pfn. refl, refl)
   kept l told command.Clone = kept_cloned (trap.clone_refusal sh.tables g (life_at id sh.lives) (trap.need (exposed_at id sh.pages) l.leaves) told)
+  kept l told (command.Gmap granter r) = kept_handles l told (command.Gmap granter r) tt
+  kept l told (command.Gunmap h) = kept_handles l told (command.Gunmap h) tt
+  kept l told (command.Hr h at n) = kept_handles l told (command.Hr h at n) tt
+  kept l told (command.Hw h at bytes) = kept_handles l told (command.Hw h at bytes) tt
   kept l told command.Exit = λ pfn lt. absurd (omega (arith, lt))
   kept l told _ = one
 
@@ -201,15 +210,20 @@ module _ (o : Own) (ps : Exposed) (one : One o.pages ps) where
   local_one s p told _ x r e = absurd cc
 
 -- all pages, where one domain's half and its exposed pages are new
-put_apart : (owns : List Own) (pages more : List Exposed) (id : ℕ) (x : Own) → id < length owns → ((k : ℕ) → One (own_at k owns).pages (exposed_at k pages)) → One x.pages (exposed_at id more) → ((k : ℕ) → k ≢ id → exposed_at k more ≡ exposed_at k pages)
+put_among : (owns : List Own) (pages more : List Exposed) (id : ℕ) (x : Own) → id < length owns → ((k : ℕ) → One (own_at k owns).pages (exposed_at k pages)) → One x.pages (exposed_at id more) → ((k : ℕ) → k ≢ id → Same (exposed_at k pages) (exposed_at k more))
     → (k : ℕ) → One (own_at k (set owns id x)).pages (exposed_at k more)
-put_apart owns pages more id x within all one far k =
+put_among owns pages more id x within all one far k =
     elim (k == id) as (λ b. k == id ≡ b → One (own_at k (set owns id x)).pages (exposed_at k more)) [
       | true ↦ λ e. subst (λ i. One (own_at i (set owns id x)).pages (exposed_at i more)) (sym (eqb-true k id e)) (subst (λ (h : Own). One h.pages (exposed_at id more)) (sym (get_or-set_same owns id x no_own within)) one)
       | false ↦ λ e.
           let apart = eqb-false k id e in
-          subst (λ (h : Own). One h.pages (exposed_at k more)) (sym (get_or-set_other owns id k x no_own apart)) (subst (One (own_at k owns).pages) (sym (far k apart)) (all k))
+          subst (λ (h : Own). One h.pages (exposed_at k more)) (sym (get_or-set_other owns id k x no_own apart)) (one_as (own_at k owns).pages (exposed_at k pages) (exposed_at k more) (far k apart) (all k))
     ] refl
+
+-- and the exposed pages of the others are as they were
+put_apart : (owns : List Own) (pages more : List Exposed) (id : ℕ) (x : Own) → id < length owns → ((k : ℕ) → One (own_at k owns).pages (exposed_at k pages)) → One x.pages (exposed_at id more) → ((k : ℕ) → k ≢ id → exposed_at k more ≡ exposed_at k pages)
+    → (k : ℕ) → One (own_at k (set owns id x)).pages (exposed_at k more)
+put_apart owns pages more id x within all one far = put_among owns pages more id x within all one (λ k apart pfn. ap (λ (ps : Exposed). is_some (fm.get ps pfn)) (far k apart))
 
 -- all pages of these own halves and exposed pages
 abbrev All : List Own → List Exposed → Type 0
@@ -220,7 +234,7 @@ module _ (sh : Shared) (owns : List Own) (id : ℕ) (size : length owns ≡ leng
   ends_apart = put_apart owns sh.pages (set sh.pages id fm.empty) id no_own within all (λ pfn lt. absurd (omega (arith, lt))) (λ k far. get_or-set_other sh.pages id k fm.empty fm.empty far)
 
   called_apart : (c : Command) (r : trap.CallResult) → Kept sh id (own_at id owns) c r → All (set owns id (own_behind (own_at id owns) c (call_effect sh r).reply (call_effect sh r).back)) (call_effect sh r).shared.pages
-  called_apart c (Ok t) k = put_apart owns sh.pages t.pages id (own_behind (own_at id owns) c t.reply t.back) within all k.0 k.1
+  called_apart c (Ok t) k = put_among owns sh.pages t.pages id (own_behind (own_at id owns) c t.reply t.back) within all k.0 k.1
   called_apart c (Err why) k = put_apart owns sh.pages sh.pages id (own_behind (own_at id owns) c (Refused why) None) within all k (λ i far. refl)
 
   line_apart : (l : Lent) (told : Told) (c : Command) → All (set owns id (own_behind (own_at id owns) c (shared_line sh id l told c).reply (shared_line sh id l told c).back)) (shared_line sh id l told c).shared.pages

@@ -19,7 +19,7 @@ use Rattle.neph_model.specs.declared.life.Guest.{Guest}
 use Rattle.neph_model.specs.Memory.{page_with_identity, zero_page, child_network_page}
 use Rattle.neph_model.specs.Machine.{Exposed, Machine, no_own, no_guest, own_at, life_at, guest_at, exposed_at}
 use Rattle.neph_model.specs.Own.{page_of}
-use Rattle.neph_model.specs.Births.{child_own, parent_own, child_exposed, with_changed, commit}
+use Rattle.neph_model.specs.Births.{child_own, parent_own, child_guest, child_exposed, with_changed, commit}
 use Rattle.neph_model.specs.Flat.{Domain, domain_at, flat_domain}
 use Rattle.neph_model.specs.Step.{Locked, bear, child_made, shared_commit, step}
 use Rattle.neph_model.specs.Laws.{IsChild, LeavesChild, CopiesItsParent}
@@ -28,9 +28,9 @@ use Rattle.neph_model.specs.Laws.{IsChild, LeavesChild, CopiesItsParent}
 abbrev page_in : Own → Exposed → ℕ → List ℕ
 page_in o exposed pfn = unwrap_or (page_of o pfn) (unwrap_or (fm.get exposed pfn) [])
 
--- the flat domain of an own half and these exposed pages
-abbrev flat_from : Own → Exposed → ℕ → ℕ → Life → Domain
-flat_from o exposed accepted id l =
+-- the flat domain of an own half, these exposed pages and what is kept of it
+abbrev flat_from : Own → Exposed → Guest → ℕ → Life → Domain
+flat_from o exposed g id l =
     record {
       id = id;
       parent = l.parent;
@@ -40,10 +40,12 @@ flat_from o exposed accepted id l =
       came = o.came;
       refused = o.refused;
       limit = l.limit;
-      accepted = accepted;
+      accepted = g.accepted;
       pages = map (page_in o exposed) (range_with_len 0 l.size);
       vmap = o.vmap;
       leaves = o.leaves;
+      grants = g.grants;
+      handles = g.handles;
     }
 
 page_at : (f : ℕ → List ℕ) (n pfn : ℕ) → pfn < n → get_or (map f (range_with_len 0 n)) pfn [] ≡ f pfn
@@ -144,10 +146,10 @@ module _ (o : Own) (ps : Exposed) (child id n : ℕ) (size : length o.pages ≡ 
   ]
 
 -- the child of a flat domain with such pages
-is_child : (o : Own) (ps : Exposed) (child id : ℕ) (l : Life) (accepted : ℕ) → length o.pages ≡ l.size → ((pfn : ℕ) → pfn < l.size → is_some (page_of o pfn) ≡ not (is_some (fm.get ps pfn)))
+is_child : (o : Own) (ps : Exposed) (child id : ℕ) (l : Life) (g : Guest) → length o.pages ≡ l.size → ((pfn : ℕ) → pfn < l.size → is_some (page_of o pfn) ≡ not (is_some (fm.get ps pfn)))
     → ((pfn : ℕ) → 0 < pfn → pfn < 4 → is_some (fm.get ps pfn) ≡ true) → is_some (fm.get ps 0) ≡ false
-    → IsChild child id (flat_from o ps accepted id l) (flat_from (child_own child id o) (child_exposed ps) 0 child (record l { parent = id }))
-is_child o ps child id l accepted size apart devices identity =
+    → IsChild child id (flat_from o ps g id l) (flat_from (child_own child id o) (child_exposed ps) (child_guest g) child (record l { parent = id }))
+is_child o ps child id l g size apart devices identity =
     let old = page_in o ps in
     let n = l.size in
     let count : length (map old (range_with_len 0 n)) ≡ n = length-map-range_with_len old 0 n in
@@ -162,6 +164,8 @@ is_child o ps child id l accepted size apart devices identity =
       clones = refl;
       vmap = refl;
       leaves = refl;
+      grants = refl;
+      handles = refl;
       count = length-map-range_with_len f 0 n ∙ sym count;
       identity = λ lt.
           let within : 0 < n = omega (arith, lt, count) in
@@ -203,30 +207,31 @@ copies_its_parent s m id line child left told p l at life shape begun far id_in_
     let life_there : life_at child sh.lives ≡ Some kid =
     get_or-set_same m.shared.lives child _ None in_lives ∙ ap (option_map (λ (l : Life). record l { parent = id })) life in
     let pages_there : exposed_at child sh.pages ≡ child_exposed ps = get_or-set_same m.shared.pages child (child_exposed ps) fm.empty in_pages in
-    let guest_there : guest_at child sh.tables ≡ no_guest =
-    get_or-set_same (set m.shared.tables.guests id (record (guest_at id m.shared.tables) { begun = left })) child no_guest no_guest (omega (arith, in_guests, length-set m.shared.tables.guests id (record (guest_at id m.shared.tables) { begun = left }))) in
-    let c : Domain = flat_from (child_own child id o) (child_exposed ps) 0 child kid in
+    let g = guest_at id m.shared.tables in
+    let guest_there : guest_at child sh.tables ≡ child_guest g =
+    get_or-set_same (set m.shared.tables.guests id (record (guest_at id m.shared.tables) { begun = left })) child (child_guest g) no_guest (omega (arith, in_guests, length-set m.shared.tables.guests id (record (guest_at id m.shared.tables) { begun = left }))) in
+    let c : Domain = flat_from (child_own child id o) (child_exposed ps) (child_guest g) child kid in
     let flat : flat_domain m2 child kid ≡ c =
-    ap (λ (h : Own). flat_from h (exposed_at child sh.pages) (guest_at child sh.tables).accepted child kid) own_there
-    ∙ ap (λ (q : Exposed). flat_from (child_own child id o) q (guest_at child sh.tables).accepted child kid) pages_there
-    ∙ ap (λ (g : Guest). flat_from (child_own child id o) (child_exposed ps) g.accepted child kid) guest_there in
+    ap (λ (h : Own). flat_from h (exposed_at child sh.pages) (guest_at child sh.tables) child kid) own_there
+    ∙ ap (λ (q : Exposed). flat_from (child_own child id o) q (guest_at child sh.tables) child kid) pages_there
+    ∙ ap (λ (g : Guest). flat_from (child_own child id o) (child_exposed ps) g child kid) guest_there in
     let born : domain_at child m2 ≡ Some c = ap (option_map (flat_domain m2 child)) life_there ∙ ap (λ d. Some d) flat in
     let same : p ≡ flat_domain m id l = some_is (sym at ∙ ap (option_map (flat_domain m id)) life) in
     let count : length p.pages ≡ l.size = ap (λ (d : Domain). length d.pages) same ∙ length-map-range_with_len (page_in o ps) 0 l.size in
     let old : Domain = flat_domain m id l in
-    let child_is : IsChild child id old c = is_child o ps child id l (guest_at id m.shared.tables).accepted shape.size shape.apart shape.devices shape.identity in
+    let child_is : IsChild child id old c = is_child o ps child id l g shape.size shape.apart shape.devices shape.identity in
     let others : (other : ℕ) → other ≢ id → other ≢ child → domain_at other m2 ≡ domain_at other m = λ other a b.
     let own_is : own_at other owns ≡ own_at other m.own =
     get_or-set_other (set m.own child (child_own child id o)) id other (parent_own o) no_own a ∙ get_or-set_other m.own child other (child_own child id o) no_own b in
     let life_is : life_at other sh.lives ≡ life_at other m.shared.lives = get_or-set_other m.shared.lives child other _ None b in
     let pages_is : exposed_at other sh.pages ≡ exposed_at other m.shared.pages = get_or-set_other m.shared.pages child other (child_exposed ps) fm.empty b in
     let guest_is : guest_at other sh.tables ≡ guest_at other m.shared.tables =
-    get_or-set_other (set m.shared.tables.guests id (record (guest_at id m.shared.tables) { begun = left })) child other no_guest no_guest b
+    get_or-set_other (set m.shared.tables.guests id (record (guest_at id m.shared.tables) { begun = left })) child other (child_guest g) no_guest b
     ∙ get_or-set_other m.shared.tables.guests id other (record (guest_at id m.shared.tables) { begun = left }) no_guest a in
-    ap (λ (h : Own). option_map (flat_from h (exposed_at other sh.pages) (guest_at other sh.tables).accepted other) (life_at other sh.lives)) own_is
-    ∙ ap (λ (q : Exposed). option_map (flat_from (own_at other m.own) q (guest_at other sh.tables).accepted other) (life_at other sh.lives)) pages_is
-    ∙ ap (λ (g : Guest). option_map (flat_from (own_at other m.own) (exposed_at other m.shared.pages) g.accepted other) (life_at other sh.lives)) guest_is
-    ∙ ap (option_map (flat_from (own_at other m.own) (exposed_at other m.shared.pages) (guest_at other m.shared.tables).accepted other)) life_is in
+    ap (λ (h : Own). option_map (flat_from h (exposed_at other sh.pages) (guest_at other sh.tables) other) (life_at other sh.lives)) own_is
+    ∙ ap (λ (q : Exposed). option_map (flat_from (own_at other m.own) q (guest_at other sh.tables) other) (life_at other sh.lives)) pages_is
+    ∙ ap (λ (g : Guest). option_map (flat_from (own_at other m.own) (exposed_at other m.shared.pages) g other) (life_at other sh.lives)) guest_is
+    ∙ ap (option_map (flat_from (own_at other m.own) (exposed_at other m.shared.pages) (guest_at other m.shared.tables) other)) life_is in
     subst (LeavesChild m id child p) (sym goes)
     record {
       born = (c, born, subst (λ d. IsChild child id d c) (sym same) child_is);

@@ -4,6 +4,7 @@ pub mod Home
 pub mod Cut
 pub mod Woven
 pub mod Plainly
+pub mod HandleRows
 pub mod Refusals
 pub mod Apart
 pub mod Flatly

@@ -28,6 +28,7 @@ use Rattle.neph_model.specs.Trap.{Accepted, answers}
 use Rattle.neph_model.specs.Step.{Outcome, Locked, locked, own_step, own_after, child_made, bear, call_effect, shared_line, step}
 use Rattle.neph_model.specs.Laws.{RefusesPlainly}
 use Rattle.neph_laws.proofs.Local.{local_alone, locked_is}
+use Rattle.neph_laws.proofs.HandleRows.{IsOfHandles, handle_row}
 
 abbrev Fine : Reply → Type 0
 Fine r = (why : Refusal) → r ≡ Refused why → ⊥
@@ -122,11 +123,18 @@ call_cloned : (sh : Shared) (id : ℕ) (g : Guest) (why : Option Refusal) → Ca
 call_cloned sh id g None = λ why e. cc
 call_cloned sh id g (Some w) = tt
 
+handle_fine : (sh : Shared) (id : ℕ) (g : Guest) (l : Lent) (told : Told) (c : Command) → IsOfHandles c → CallFine (trap.trap sh id g l told c)
+handle_fine sh id g = handle_row sh id g CallFine (λ why plain. tt) (λ bytes why e. cc) (λ m h why e. cc) (λ m why e. cc) (λ granter pfn at bytes there why e. cc)
+
 call_fine : (sh : Shared) (id : ℕ) (g : Guest) (l : Lent) (told : Told) (c : Command) → CallFine (trap.trap sh id g l told c)
 call_fine sh id g l told (command.W addr bytes) = call_shown sh id (addr % 4096) bytes l.met
 call_fine sh id g l told (command.R addr len) = λ why e. cc
 call_fine sh id g l told command.Free = λ why e. cc
 call_fine sh id g l told command.Clone = call_cloned sh id g (trap.clone_refusal sh.tables g (life_at id sh.lives) (trap.need (exposed_at id sh.pages) l.leaves) told)
+call_fine sh id g l told (command.Gmap granter r) = handle_fine sh id g l told (command.Gmap granter r) tt
+call_fine sh id g l told (command.Gunmap h) = handle_fine sh id g l told (command.Gunmap h) tt
+call_fine sh id g l told (command.Hr h at n) = handle_fine sh id g l told (command.Hr h at n) tt
+call_fine sh id g l told (command.Hw h at bytes) = handle_fine sh id g l told (command.Hw h at bytes) tt
 call_fine sh id g l told _ = tt
 
 -- a refused call changes nothing
