@@ -1,12 +1,11 @@
 -- What the commands of handles come to: a refusal, bytes that were read, other handles of the
 -- domain, or bytes that were written to an exposed page.
-use Rattle.std.proofs.Common.{◌≡◌, ℕ, Bool, true, false, cond, List, set, length, Option, Some, None, Ok, Err, inl, inr, refl, sym, ap, ◌∙◌}
+use Rattle.std.proofs.Common.{◌≡◌, ℕ, zero, suc, Bool, true, false, cond, List, [], ◌∷◌, get_or, set, Option, Some, None, Ok, Err, refl, sym, ap, ◌∙◌}
 use Rattle.std.specs.Prelude.{Result, ⊤, is_some, ◌==◌}
 use Rattle.std.specs.Ordering.{nat_cmp, eq_by_cmp}
 use Rattle.std.specs.Cmp.{nat_cmp_total, unsigned_tied}
 use Rattle.std.specs.FinMap as fm
-use Rattle.std.proofs.lemmas.Bool.{eqb-true, eqb-false, cases_lt}
-use Rattle.std.proofs.lemmas.List.{get_or-set_same, get_or-set_other, get_or_past}
+use Rattle.std.proofs.lemmas.Bool.{eqb-true}
 use Rattle.neph_base.specs.declared.command.Mode.{Mode}
 use Rattle.neph_base.specs.declared.command.Mode.TheVariants.{Ro, Rw}
 use Rattle.neph_base.specs.declared.command.Command.{Command}
@@ -135,18 +134,16 @@ again ps p pfn x has =
       | false ↦ λ e. refl
     ] refl
 
-clash : true ≡ false → ⊥
-clash e = cc
+-- what a test of the places of a list tells stays, where the new one passes as the old one did
+pub put_as : {A B : Type 0} (f : A → B) (xs : List A) (at : ℕ) (x d : A) → f x ≡ f (get_or xs at d) → (k : ℕ) → f (get_or (set xs at x) k d) ≡ f (get_or xs k d)
+put_as f [] at x d same k = refl
+put_as f (y ∷ ys) zero x d same zero = same
+put_as f (y ∷ ys) zero x d same (suc k) = refl
+put_as f (y ∷ ys) (suc at) x d same zero = refl
+put_as f (y ∷ ys) (suc at) x d same (suc k) = put_as f ys at x d same k
 
 pub written_there : (pages : List Exposed) (granter pfn at : ℕ) (bytes : List ℕ) → is_exposed pages granter pfn ≡ true
     → (k q : ℕ) → is_exposed (with_exposed_bytes pages granter pfn at bytes) k q ≡ is_exposed pages k q
 written_there pages granter pfn at bytes has k q =
     let x = page_with_bytes (exposed_bytes pages granter pfn) at bytes in
-    let ps = fm.insert (exposed_at granter pages) pfn x in
-    elim (k == granter) as (λ b. k == granter ≡ b → is_exposed (set pages granter ps) k q ≡ is_exposed pages k q) [
-      | true ↦ λ e. elim (cases_lt granter (length pages)) [
-        | inl lt ↦ rw (eqb-true k granter e) (ap (λ (v : Exposed). is_some (fm.get v q)) (get_or-set_same pages granter ps fm.empty lt) ∙ again (exposed_at granter pages) pfn q x has)
-        | inr ge ↦ absurd (clash (sym has ∙ ap (λ (v : Exposed). is_some (fm.get v pfn)) (get_or_past pages granter fm.empty ge) ∙ ap is_some (fm.get-empty nat_cmp pfn)))
-      ]
-      | false ↦ λ e. ap (λ (v : Exposed). is_some (fm.get v q)) (get_or-set_other pages granter k ps fm.empty (eqb-false k granter e))
-    ] refl
+    put_as (λ (v : Exposed). is_some (fm.get v q)) pages granter (fm.insert (exposed_at granter pages) pfn x) fm.empty (again (exposed_at granter pages) pfn q x has) k

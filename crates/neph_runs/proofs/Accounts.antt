@@ -5,10 +5,9 @@ use Rattle.std.proofs.lemmas.List.{length-set, get_or-set_other}
 use Rattle.neph_model.specs.declared.script.Script.{Script}
 use Rattle.neph_model.specs.declared.book.Book.{Book}
 use Rattle.neph_model.specs.Machine.{sum_live}
-use Rattle.neph_model.specs.Trap.{need}
 use Rattle.neph_model.specs.Frames.{used, AddsUp}
 use Rattle.neph_model.specs.Books.{Books, State, no_book, put_book, colours_used, spares_held, table_frames, aside_for, counts, free}
-use Rattle.neph_runs.specs.Orderly.{Seat, seat}
+use Rattle.neph_runs.specs.Orderly.{Seat, Outline, seat}
 use Rattle.neph_runs.specs.Work.{all_ids}
 use Rattle.neph_runs.proofs.Sums.{ids_one, ids_two}
 use Rattle.neph_runs.proofs.Seats.{OneChanged}
@@ -19,9 +18,13 @@ use Rattle.neph_runs.proofs.Colours.{times, pages_put, pages_least, colours_grow
 abbrev pub tables_at : Seat → ℕ
 tables_at x = cond (is_some x.life) (1 + length x.own.leaves) 0
 
+-- the frames that a clone needs, by which pages are exposed
+abbrev pub need_with : Outline → ℕ → ℕ
+need_with e leaves = 2 + leaves + e.count
+
 -- the frames that the clones in flight of a seat have put aside
 abbrev pub aside_at : Seat → ℕ
-aside_at x = cond (is_some x.life) (length x.guest.begun * need x.exposed (length x.own.leaves)) 0
+aside_at x = cond (is_some x.life) (length x.guest.begun * need_with x.exposed (length x.own.leaves)) 0
 
 -- the frames that a state uses
 abbrev pub frames_used : State → ℕ

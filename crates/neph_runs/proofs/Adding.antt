@@ -16,7 +16,7 @@ use Rattle.neph_model.specs.declared.book.Move.TheVariants.{Rests, StepsPage, Co
 use Rattle.neph_model.specs.WellFormed.{IsWellFormed}
 use Rattle.neph_model.specs.Machine.{is_live, is_over}
 use Rattle.neph_model.specs.Births.{parent_own, child_own}
-use Rattle.neph_model.specs.Trap.{need, is_blocked}
+use Rattle.neph_model.specs.Trap.{is_blocked}
 use Rattle.neph_model.specs.Step.{is_paused}
 use Rattle.neph_model.specs.Books.{Books, State, free, no_book, book_of, spares_held, child_colours, new_count}
 use Rattle.neph_model.specs.Turns.{nothing, stage_stepped, next_command, next_move, move_turn, domain_turn, turn, before, turns}
@@ -27,7 +27,7 @@ use Rattle.neph_runs.proofs.Falls.{next_id, live_within}
 use Rattle.neph_runs.proofs.Turning.{IsFresh, fresh_move, forked, move_falls, joins, joins_seats, joins_falls}
 use Rattle.neph_runs.proofs.Says.{Reasons, WritesWhere, move_reasons}
 use Rattle.neph_runs.proofs.Colours.{bit, times_child}
-use Rattle.neph_runs.proofs.Accounts.{tables_at, aside_at, frames_used, free_is, two_use, colours_born}
+use Rattle.neph_runs.proofs.Accounts.{need_with, tables_at, aside_at, frames_used, free_is, two_use, colours_born}
 use Rattle.neph_runs.proofs.Sound.{parent_halves, child_halves, new_most}
 use Rattle.neph_runs.proofs.Caps.{later_capped, child_capped, child_size}
 use Rattle.neph_runs.proofs.Rooms.{IsSoundAt, IsSound, seat_command, two_seats, quiet_sound, line_sound}
@@ -75,13 +75,13 @@ module _ (s : Script) (well : IsWellFormed s) (st : State) (id : ℕ) (sound : I
       let ord = sound.orderly.seats id live in
       let orderly : IsOrderly new = subst IsOrderly did.0 (move_falls s well st id sound.orderly live Commits e).orderly in
       let uses = two_use st new id child p c within ne bears in
-      let n = need x.exposed (length x.own.leaves) in
+      let n = need_with x.exposed (length x.own.leaves) in
       let tables_old = ap (λ v. cond v (1 + length x.own.leaves) 0) live in
       let aside_old : aside_at x ≡ n = ap (λ v. cond v (length x.guest.begun * n) 0) live ∙ ap (λ (l : List ℕ). length l * n) begun ∙ omega arith in
       let tables_parent = ap (λ v. cond v (1 + length x.own.leaves) 0) live in
       let tables_child = cond_most (is_some c.life) (1 + length x.own.leaves) in
       let aside_parent : aside_at p ≡ 0 = ap (λ v. cond v (0 * n) 0) live ∙ omega arith in
-      let none : ℕ = 0 * need c.exposed (length c.own.leaves) in
+      let none : ℕ = 0 * need_with c.exposed (length c.own.leaves) in
       let aside_child : aside_at c ≤ none = cond_most (is_some c.life) none in
       let zero : none ≡ 0 = omega arith in
       let k = new_count x.own 0 x.book.colours in

@@ -25,13 +25,13 @@ use Rattle.neph_model.specs.declared.book.Spends.TheVariants.{Nothing, Leaf, Cop
 use Rattle.neph_model.specs.declared.told.Told.{Told}
 use Rattle.neph_model.specs.WellFormed.{IsWellFormed, IsWellFormedProgram}
 use Rattle.neph_model.specs.Programs.{commands_of, program_at}
-use Rattle.neph_model.specs.Machine.{no_own, no_guest, own_at, exposed_at, program_of}
+use Rattle.neph_model.specs.Machine.{no_own, no_guest, own_at, exposed_at, program_of, guest_at}
 use Rattle.neph_model.specs.Births.{end_domain}
 use Rattle.neph_model.specs.Trap.{begin_clone}
 use Rattle.neph_model.specs.Step.{Outcome, step}
 use Rattle.neph_model.specs.Books.{State, put_book, book_spent, fresh_spent, goes_shared, shared_count}
 use Rattle.neph_model.specs.Turns.{Done, nothing, quietly, book_after, books_after, line_turn}
-use Rattle.neph_runs.specs.Orderly.{Seat, seat, ForksWell, IsOrderlyAt, IsOrderly}
+use Rattle.neph_runs.specs.Orderly.{Seat, seat, ForksWell, IsOrderlyAt, IsOrderly, outline, but_handles}
 use Rattle.neph_runs.proofs.Sums.{same_or, ids_one}
 use Rattle.neph_runs.proofs.Lines.{GoesOn, Goes, Ends, Begins, line_kind}
 use Rattle.neph_runs.specs.Work.{lines_left, spare_left, stage_work, size_by, work_at, work_left}
@@ -193,7 +193,7 @@ module _ (s : Script) (well : IsWellFormed s) (st : State) (id : ℕ) (orderly :
     ended =
         let b = book_after x.own out.reply (book_spent spends st.books.fresh x.book) in
         let fresh = fresh_spent spends st.books.fresh in
-        let y : Seat = record { own = no_own; life = None; guest = no_guest; exposed = fm.empty; book = b } in
+        let y : Seat = record { own = no_own; life = None; guest = no_guest; exposed = outline fm.empty; book = b } in
         let new : State = record { machine = record { own = set st.machine.own id no_own; shared = end_domain st.machine.shared id }; books = books_after id x.own spends out.reply st.books } in
         let turns = ends_turns st id orderly.places within b fresh in
         let least = line_left at in
@@ -208,13 +208,13 @@ module _ (s : Script) (well : IsWellFormed s) (st : State) (id : ℕ) (orderly :
       let b = book_after x.own out.reply b0 in
       let plain : b ≡ record b0 { stage = Ready } = plain_book x.own out.reply b0 g.on in
       let fresh = fresh_spent spends st.books.fresh in
-      let y : Seat = record x { own = g.after; exposed = exposed_at id out.machine.shared.pages; book = b } in
+      let y : Seat = record x { own = g.after; exposed = outline (exposed_at id out.machine.shared.pages); book = b } in
       let z : Seat = record y { book = record b0 { stage = Ready } } in
       let same : y ≡ z = ap (λ (v : Book). record y { book = v }) plain in
       let new = after_line st id spends out in
       let turns = goes_turns st id orderly.places within out g b fresh in
-      let next : next_id new ≡ next_id st = ap (λ t. t.next) g.tables in
-      let waiting : waits new ≡ waits st = ap (λ t. length t.waiting) g.tables in
+      let next : next_id new ≡ next_id st = g.tables.next in
+      let waiting : waits new ≡ waits st = ap (λ l. length l) g.tables.waiting in
       let h = is_orderly in
       let least = line_left at in
       let left : work_at s y ≡ work_at s z = ap (work_at s) same in
@@ -237,7 +237,7 @@ module _ (s : Script) (well : IsWellFormed s) (st : State) (id : ℕ) (orderly :
 
   -- what the begin of a clone comes to
   abbrev begun : Outcome
-  begun = record { machine = record { own = set st.machine.own id (record x.own { refused = false }); shared = record st.machine.shared { tables = begin_clone st.machine.shared.tables id x.guest } }; reply = reply.Begun (next_id st) }
+  begun = record { machine = record { own = set st.machine.own id (record x.own { refused = false }); shared = record st.machine.shared { tables = begin_clone st.machine.shared.tables id (guest_at id st.machine.shared.tables) } }; reply = reply.Begun (next_id st) }
 
   begins_less : (told : Told) (spends : Spends) (out : Outcome) → AtLine x.book.stage → Begins st.machine id told out → Less s st (after_line st id spends out)
   begins_less told spends out at e = subst (λ o. Less s st (after_line st id spends o)) (sym whole) began where
@@ -249,9 +249,9 @@ module _ (s : Script) (well : IsWellFormed s) (st : State) (id : ℕ) (orderly :
         let b0 = book_spent spends st.books.fresh x.book in
         let b : Book = record b0 { stage = Forking (shared_count x.own) } in
         let fresh = fresh_spent spends st.books.fresh in
-        let g : Guest = record { accepted = x.guest.accepted + 1; begun = x.guest.begun ++ next_id st ∷ [] } in
+        let g : Guest = record (guest_at id st.machine.shared.tables) { accepted = x.guest.accepted + 1; begun = x.guest.begun ++ next_id st ∷ [] } in
         let o : Own = record x.own { refused = false } in
-        let y : Seat = record x { own = o; guest = g; book = b } in
+        let y : Seat = record x { own = o; guest = but_handles g; book = b } in
         let new = after_line st id spends begun in
         let turns = begins_turns st id orderly.places within g o (next_id st + 1) b fresh in
         let h = is_orderly in

@@ -24,13 +24,13 @@ use Rattle.neph_model.specs.declared.book.Spends.{Spends}
 use Rattle.neph_model.specs.declared.book.Spends.TheVariants.{Nothing}
 use Rattle.neph_model.specs.declared.told.Told.{Told}
 use Rattle.neph_model.specs.WellFormed.{IsWellFormed}
-use Rattle.neph_model.specs.Machine.{no_own, no_guest, own_at, exposed_at, is_live}
+use Rattle.neph_model.specs.Machine.{no_own, no_guest, own_at, exposed_at, is_live, guest_at}
 use Rattle.neph_model.specs.Trap.{is_blocked, begin_clone}
 use Rattle.neph_model.specs.Births.{end_domain}
 use Rattle.neph_model.specs.Step.{Outcome, step, is_paused}
 use Rattle.neph_model.specs.Books.{State, free, no_book, put_book, book_spent, fresh_spent, pages_of, shared_count}
 use Rattle.neph_model.specs.Turns.{nothing, quietly, stage_stepped, book_after, next_command, next_move, line_turn, move_turn, domain_turn, turn}
-use Rattle.neph_runs.specs.Orderly.{Seat, seat}
+use Rattle.neph_runs.specs.Orderly.{Seat, seat, outline, but_handles}
 use Rattle.neph_runs.proofs.Lines.{Goes, Ends, Begins, line_kind, goes_no_exit, begins_clone}
 use Rattle.neph_runs.proofs.Seats.{book_turns, goes_turns, ends_turns, begins_turns}
 use Rattle.neph_runs.proofs.Births.{child_seat, commit_born, bears}
@@ -67,14 +67,14 @@ module _ (s : Script) (well : IsWellFormed s) (st : State) (id : ℕ) (sound : I
       (λ l pfn inside own. subst (λ (l : List ℕ). pages_of (get_or l pfn 0) new.books ≤ 1) (sym same) (stays_one bs new.books re (get_or x.book.colours pfn 0) (all.solo id live pfn inside own))) (λ l. absurd (false≢true (sym l ∙ live)))
 
   goes_coloured : (told : Told) (spends : Spends) (out : Outcome) (c : Command) → Says (free s st) st.books x.own x.book c told spends → Goes st.machine id out
-      → Steps x.own x.exposed (own_at id out.machine.own) (exposed_at id out.machine.shared.pages) (leaf_of spends) (page_written x.own told c) → AreColoured (after_line st id spends out)
+      → Steps x.own x.exposed (own_at id out.machine.own) (outline (exposed_at id out.machine.shared.pages)) (leaf_of spends) (page_written x.own told c) → AreColoured (after_line st id spends out)
   goes_coloured told spends out c says g steps =
       let bs = st.books in
       let b0 = book_spent spends bs.fresh x.book in
       let b = book_after x.own out.reply b0 in
       let plain : b ≡ record b0 { stage = Ready } = plain_book x.own out.reply b0 g.on in
       let fresh = fresh_spent spends bs.fresh in
-      let y : Seat = record x { own = g.after; exposed = exposed_at id out.machine.shared.pages; book = b } in
+      let y : Seat = record x { own = g.after; exposed = outline (exposed_at id out.machine.shared.pages); book = b } in
       let new = after_line st id spends out in
       let p = sound.orderly.places in
       let turns = goes_turns st id p within out g b fresh in
@@ -99,7 +99,7 @@ module _ (s : Script) (well : IsWellFormed s) (st : State) (id : ℕ) (sound : I
     ended =
         let bs = st.books in
         let fresh = fresh_spent spends bs.fresh in
-        let y : Seat = record { own = no_own; life = None; guest = no_guest; exposed = fm.empty; book = no_book } in
+        let y : Seat = record { own = no_own; life = None; guest = no_guest; exposed = outline fm.empty; book = no_book } in
         let new = after_line st id spends stopped in
         let turns = ends_turns st id sound.orderly.places within no_book fresh in
         let re : Recolours bs new.books = spent_recolours st all id booked spends no_book (λ c. omega arith) in
@@ -107,10 +107,10 @@ module _ (s : Script) (well : IsWellFormed s) (st : State) (id : ℕ) (sound : I
 
   -- what the begin of a clone comes to
   abbrev begun : Outcome
-  begun = record { machine = record { own = set st.machine.own id (record x.own { refused = false }); shared = record st.machine.shared { tables = begin_clone st.machine.shared.tables id x.guest } }; reply = reply.Begun (next_id st) }
+  begun = record { machine = record { own = set st.machine.own id (record x.own { refused = false }); shared = record st.machine.shared { tables = begin_clone st.machine.shared.tables id (guest_at id st.machine.shared.tables) } }; reply = reply.Begun (next_id st) }
 
   begins_coloured : (told : Told) (spends : Spends) (out : Outcome) (c : Command) → Says (free s st) st.books x.own x.book c told spends → Begins st.machine id told out
-      → Steps x.own x.exposed (own_at id out.machine.own) (exposed_at id out.machine.shared.pages) (leaf_of spends) (page_written x.own told c) → AreColoured (after_line st id spends out)
+      → Steps x.own x.exposed (own_at id out.machine.own) (outline (exposed_at id out.machine.shared.pages)) (leaf_of spends) (page_written x.own told c) → AreColoured (after_line st id spends out)
   begins_coloured told spends out c says e steps = subst AreColoured (sym (ap (after_line st id spends) whole)) began where
     whole : out ≡ begun
     whole = ap (λ m. record { machine = m; reply = out.reply }) e.machine ∙ ap (λ r. record { machine = begun.machine; reply = r }) e.reply
@@ -121,9 +121,9 @@ module _ (s : Script) (well : IsWellFormed s) (st : State) (id : ℕ) (sound : I
         let b0 = book_spent spends bs.fresh x.book in
         let b : Book = record b0 { stage = Forking (shared_count x.own) } in
         let fresh = fresh_spent spends bs.fresh in
-        let g : Guest = record { accepted = x.guest.accepted + 1; begun = x.guest.begun ++ next_id st ∷ [] } in
+        let g : Guest = record (guest_at id st.machine.shared.tables) { accepted = x.guest.accepted + 1; begun = x.guest.begun ++ next_id st ∷ [] } in
         let o : Own = record x.own { refused = false } in
-        let y : Seat = record x { own = o; guest = g; book = b } in
+        let y : Seat = record x { own = o; guest = but_handles g; book = b } in
         let new = after_line st id spends begun in
         let p = sound.orderly.places in
         let turns = begins_turns st id p within g o (next_id st + 1) b fresh in
@@ -131,8 +131,8 @@ module _ (s : Script) (well : IsWellFormed s) (st : State) (id : ℕ) (sound : I
         let ord = sound.orderly.seats id live in
         let re : Recolours bs new.books = spent_recolours st all id booked spends b (λ k. omega arith) in
         let own : own_at id out.machine.own ≡ o = ap (λ (v : Outcome). own_at id v.machine.own) whole ∙ get_or-set_same st.machine.own id o no_own (omega (arith, p.own)) in
-        let shown : exposed_at id out.machine.shared.pages ≡ x.exposed = ap (λ (v : Outcome). exposed_at id v.machine.shared.pages) whole in
-        let stepped : Steps x.own x.exposed o x.exposed (leaf_of spends) (page_written x.own told c) = subst (λ f. Steps x.own x.exposed o f (leaf_of spends) (page_written x.own told c)) shown (subst (λ n. Steps x.own x.exposed n (exposed_at id out.machine.shared.pages) (leaf_of spends) (page_written x.own told c)) own steps) in
+        let shown : outline (exposed_at id out.machine.shared.pages) ≡ x.exposed = ap (λ (v : Outcome). outline (exposed_at id v.machine.shared.pages)) whole in
+        let stepped : Steps x.own x.exposed o x.exposed (leaf_of spends) (page_written x.own told c) = subst (λ f. Steps x.own x.exposed o f (leaf_of spends) (page_written x.own told c)) shown (subst (λ n. Steps x.own x.exposed n (outline (exposed_at id out.machine.shared.pages)) (leaf_of spends) (page_written x.own told c)) own steps) in
         one_coloured st all id booked new y re turns
         (λ l pfn inside mine. steps_solo st all id booked live h.halves ord.colours new.books re (free s st) c told spends o x.exposed says stepped pfn inside mine)
         (λ l. absurd (false≢true (sym l ∙ live)))
@@ -143,7 +143,7 @@ module _ (s : Script) (well : IsWellFormed s) (st : State) (id : ℕ) (sound : I
       let c = seat_command s x in
       let out = step s m (Line id x.own.line) told in
       let p = sound.orderly.places in
-      let steps : c ≢ command.Exit → Steps x.own x.exposed (own_at id out.machine.own) (exposed_at id out.machine.shared.pages) (leaf_of spends) (page_written x.own told c) = λ far.
+      let steps : c ≢ command.Exit → Steps x.own x.exposed (own_at id out.machine.own) (outline (exposed_at id out.machine.shared.pages)) (leaf_of spends) (page_written x.own told c) = λ far.
       command_steps m id told (omega (arith, within, p.own)) (omega (arith, within, p.exposed)) s c x.book st.books (free s st) spends far says in
       let goes : Goes m id out → AreColoured (after_line st id spends out) = λ g. goes_coloured told spends out c says g (steps (goes_no_exit s m id told c g.on)) in
       let begins : Begins m id told out → AreColoured (after_line st id spends out) = λ e.

@@ -20,7 +20,7 @@ use Rattle.neph_model.specs.Machine.{Exposed}
 use Rattle.neph_model.specs.Own.{page_of, mapping_at}
 use Rattle.neph_model.specs.Books.{Books, State, no_book, put_book, book_spent, fresh_spent, pages_of, is_shared}
 use Rattle.neph_model.specs.Turns.{page_to_copy}
-use Rattle.neph_runs.specs.Orderly.{Seat, seat}
+use Rattle.neph_runs.specs.Orderly.{Seat, seat, Outline}
 use Rattle.neph_runs.proofs.Sums.{same_or}
 use Rattle.neph_runs.proofs.Seats.{OneChanged}
 use Rattle.neph_runs.proofs.Says.{Says}
@@ -194,9 +194,13 @@ module _ (st : State) (all : AreColoured st) (id : ℕ) (lt : id < length st.boo
   wrote_solo live new re n command.Exit t sp pfn inside within says e = absurd cc
   wrote_solo live new re n command.Free t sp pfn inside within says e = absurd cc
   wrote_solo live new re n command.Clone t sp pfn inside within says e = absurd cc
+  wrote_solo live new re n (command.Gmap granter r) t sp pfn inside within says e = absurd cc
+  wrote_solo live new re n (command.Gunmap h) t sp pfn inside within says e = absurd cc
+  wrote_solo live new re n (command.Hr h at len) t sp pfn inside within says e = absurd cc
+  wrote_solo live new re n (command.Hw h at bytes) t sp pfn inside within says e = absurd cc
 
   -- the pages of a domain behind a line
-  pub steps_solo : (live : is_some x.life ≡ true) → AreHalves x.own x.exposed → length x.book.colours ≡ length x.own.pages → (new : Books) → Recolours st.books new → (n : ℕ) (c : Command) (t : Told) (sp : Spends) (after : Own) (f : Exposed) → Says n st.books x.own x.book c t sp
+  pub steps_solo : (live : is_some x.life ≡ true) → AreHalves x.own x.exposed → length x.book.colours ≡ length x.own.pages → (new : Books) → Recolours st.books new → (n : ℕ) (c : Command) (t : Told) (sp : Spends) (after : Own) (f : Outline) → Says n st.books x.own x.book c t sp
       → Steps x.own x.exposed after f (leaf_of sp) (page_written x.own t c) → (pfn : ℕ) → pfn < length after.pages → IsOwn after pfn → pages_of (get_or (book_spent sp st.books.fresh x.book).colours pfn 0) new ≤ 1
   steps_solo live halves same new re n c t sp after f says steps pfn lt own =
       let inside : pfn < length x.own.pages = omega (arith, lt, steps.pages) in

@@ -26,13 +26,17 @@ use Rattle.neph_model.specs.declared.told.Told.{Told}
 use Rattle.neph_model.specs.declared.told.Told.TheVariants.{Enough, Short, Free}
 use Rattle.neph_model.specs.Memory.{page_with_bytes}
 use Rattle.neph_model.specs.Programs.{commands_of, labels_of, program_at, command_in, command_at, label_line}
-use Rattle.neph_model.specs.Machine.{Tables, Shared, Machine, own_at, life_at, guest_at, exposed_at, program_run, no_own, put_own}
+use Rattle.neph_model.specs.Machine.{Tables, Shared, Machine, own_at, life_at, guest_at, exposed_at, program_run, no_own, no_guest, put_own, put_guest}
 use Rattle.neph_model.specs.Own.{LocalResult, page_of, mapping_at, with_alone, with_bytes, with_mapping, with_leaf, is_bad_pfn, has_leaf, w_step, r_step, leaf_step, map_step, unmap_step, settle, jump_step, local_step}
-use Rattle.neph_model.specs.Lent.{lent, own_given, own_replied, own_behind, with_page_back}
-use Rattle.neph_model.specs.Trap.{Accepted, CallResult, answers, is_exposed, exposed_bytes, with_exposed_bytes, w_call, r_call, free_told, need, lacks_frames, clone_refusal, begin_clone, clone_call}
+use Rattle.neph_model.specs.Lent.{Lent, lent, own_given, own_replied, own_behind, with_page_back}
+use Rattle.neph_model.specs.Trap.{Accepted, CallResult, answers, is_exposed, exposed_bytes, with_exposed_bytes, w_call, r_call, trap, with_handles, free_told, need, lacks_frames, clone_refusal, begin_clone, clone_call}
+use Rattle.neph_grant.specs.Handles.{Mappings}
 use Rattle.neph_model.specs.Births.{end_domain}
 use Rattle.neph_model.specs.Step.{Outcome, call_effect, shared_line, step}
 use Rattle.neph_model.specs.WellFormed.{JumpsAhead, IsWellFormedProgram, IsWellFormed}
+use Rattle.neph_laws.proofs.HandleRows.{IsOfHandles, handle_row, put_as}
+use Rattle.neph_runs.specs.Orderly.{outline, but_handles}
+use Rattle.neph_runs.proofs.Steps.{written_outline}
 
 -- a reply behind which a domain goes on to another line
 abbrev pub GoesOn : Reply → Type 0
@@ -40,14 +44,29 @@ GoesOn reply.Ended = ⊥
 GoesOn (reply.Begun child) = ⊥
 GoesOn _ = ⊤
 
--- the domain of an id goes on: its own half is this, with as many pages, and no other id changes
+-- the tables keep all but handles
+pub record KeepsTables (t new : Tables) : Type 0 where
+  pub next : new.next ≡ t.next
+  pub waiting : new.waiting ≡ t.waiting
+  pub guests : length new.guests ≡ length t.guests
+  pub each : (j : ℕ) → but_handles (guest_at j new) ≡ but_handles (guest_at j t)
+
+same_tables : (t : Tables) → KeepsTables t t
+same_tables t = record { next = refl; waiting = refl; guests = refl; each = λ j. refl }
+
+handled_tables : (t : Tables) (id : ℕ) (hs : Mappings) → KeepsTables t (put_guest id (record (guest_at id t) { handles = hs }) t)
+handled_tables t id hs =
+    let g : Guest = record (guest_at id t) { handles = hs } in
+    record { next = refl; waiting = refl; guests = length-set t.guests id g; each = put_as but_handles t.guests id g no_guest refl }
+
+-- The domain of an id goes on: its own half is this, with as many pages. Of the other ids nothing changes but the bytes of exposed pages.
 pub record Goes (m : Machine) (id : ℕ) (out : Outcome) : Type 0 where
   pub after : Own
   pub own : out.machine.own ≡ set m.own id after
   pub lives : out.machine.shared.lives ≡ m.shared.lives
-  pub tables : out.machine.shared.tables ≡ m.shared.tables
+  pub tables : KeepsTables m.shared.tables out.machine.shared.tables
   pub exposed : length out.machine.shared.pages ≡ length m.shared.pages
-  pub others : (j : ℕ) → j ≢ id → exposed_at j out.machine.shared.pages ≡ exposed_at j m.shared.pages
+  pub others : (j : ℕ) → j ≢ id → outline (exposed_at j out.machine.shared.pages) ≡ outline (exposed_at j m.shared.pages)
   pub later : (own_at id m.own).line < after.line
   pub pages : length after.pages ≡ length (own_at id m.own).pages
   pub on : GoesOn out.reply
@@ -129,9 +148,9 @@ keeps_unmap o vpn (Some to) = (record { pages = refl }, tt)
 
 -- an accepted call of a domain that goes on
 record Answers (sh : Shared) (id : ℕ) (a : Accepted) : Type 0 where
-  tables : a.tables ≡ sh.tables
+  tables : KeepsTables sh.tables a.tables
   exposed : length a.pages ≡ length sh.pages
-  others : (j : ℕ) → j ≢ id → exposed_at j a.pages ≡ exposed_at j sh.pages
+  others : (j : ℕ) → j ≢ id → outline (exposed_at j a.pages) ≡ outline (exposed_at j sh.pages)
   back : a.back ≡ None
   on : GoesOn a.reply
 
@@ -140,7 +159,7 @@ CallsOn sh id (Ok a) = Answers sh id a
 CallsOn sh id (Err why) = ⊤
 
 answers_on : (sh : Shared) (id : ℕ) (r : Reply) → GoesOn r → CallsOn sh id (answers sh r)
-answers_on sh id r on = record { tables = refl; exposed = refl; others = λ j ne. refl; back = refl; on = on }
+answers_on sh id r on = record { tables = same_tables sh.tables; exposed = refl; others = λ j ne. refl; back = refl; on = on }
 
 w_on : (sh : Shared) (id at : ℕ) (bytes : List ℕ) (met : Option Mapping) → CallsOn sh id (w_call sh id at bytes met)
 w_on sh id at bytes None = tt
@@ -151,11 +170,19 @@ w_on sh id at bytes (Some to) = either (is_exposed sh.pages id to.pfn) to.mode w
 
   go : (mode : Mode) → CallsOn sh id (by mode)
   go Ro = tt
-  go Rw = record { tables = refl; exposed = length-set sh.pages id _; others = λ j ne. get_or-set_other sh.pages id j _ map.empty ne; back = refl; on = tt }
+  go Rw = record { tables = same_tables sh.tables; exposed = length-set sh.pages id _; others = λ j ne. ap outline (get_or-set_other sh.pages id j _ map.empty ne); back = refl; on = tt }
 
   either : (b : Bool) (mode : Mode) → CallsOn sh id (cond b (by mode) (Err NoFrame))
   either true mode = go mode
   either false mode = tt
+
+-- a command of handles
+handled_on : (sh : Shared) (id : ℕ) (l : Lent) (told : Told) (c : Command) → IsOfHandles c → CallsOn sh id (trap sh id (guest_at id sh.tables) l told c)
+handled_on sh id =
+    let handles : (hs : Mappings) (r : Reply) → GoesOn r → CallsOn sh id (answers (with_handles sh id (guest_at id sh.tables) hs) r) = λ hs r on.
+    record { tables = handled_tables sh.tables id hs; exposed = refl; others = λ j ne. refl; back = refl; on = on } in
+    handle_row sh id (guest_at id sh.tables) (CallsOn sh id) (λ why plain. tt) (λ bytes. answers_on sh id (reply.Bytes bytes) tt) (λ hs h. handles hs (reply.Number h) tt) (λ hs. handles hs reply.Done tt)
+    (λ granter pfn at bytes there. record { tables = same_tables sh.tables; exposed = length-set sh.pages granter _; others = λ j ne. written_outline sh.pages granter pfn at bytes there j; back = refl; on = tt })
 
 module _ (m : Machine) (id : ℕ) (told : Told) where
   abbrev o : Own
@@ -173,7 +200,7 @@ module _ (m : Machine) (id : ℕ) (told : Told) where
       record { machine = record { own = set m.own id (own_replied (with_page_back (given did.reply) did.back) did.reply); shared = did.shared }; reply = did.reply }
 
   went : (new : Own) (r : Reply) → Keeps o new → GoesOn r → o.line < new.line → Kind m id told (record { machine = put_own id new m; reply = r })
-  went new r k on later = inl (record { after = new; own = refl; lives = refl; tables = refl; exposed = refl; others = λ j ne. refl; later = later; pages = k.pages; on = on })
+  went new r k on later = inl (record { after = new; own = refl; lives = refl; tables = same_tables m.shared.tables; exposed = refl; others = λ j ne. refl; later = later; pages = k.pages; on = on })
 
   settled : (lock : Outcome) (x : LocalResult) → Kind m id told lock → KeepsBy o x → Kind m id told (out_by lock (option_map (settle o) x))
   settled lock None h k = h
@@ -219,7 +246,7 @@ module _ (m : Machine) (id : ℕ) (told : Told) where
         after = own_replied (given (reply.Refused why)) (reply.Refused why);
         own = refl;
         lives = refl;
-        tables = refl;
+        tables = same_tables m.shared.tables;
         exposed = refl;
         others = λ j ne. refl;
         later = omega (arith, line);
@@ -272,6 +299,13 @@ module _ (m : Machine) (id : ℕ) (told : Told) where
   abbrev pub does : Script → Command → Outcome
   does s c = out_by (locks c) (local_step s (program_run id m.shared.lives) o told c)
 
+  -- what a command of handles comes to
+  abbrev handles_call : Command → CallResult
+  handles_call c = trap m.shared id (guest_at id m.shared.tables) (lent o c) told c
+
+  handled : (c : Command) → IsOfHandles c → Kind m id told (called (λ r. o) (handles_call c))
+  handled c is = alone (handles_call c) (handled_on m.shared id (lent o c) told c is)
+
   locks_on : (c : Command) → c ≢ command.Exit → Kind m id told (locks c)
   locks_on (command.W addr bytes) far = calls (own_given o (command.W addr bytes)) (λ r. (given_w addr bytes r).0) (λ r. (given_w addr bytes r).1) (w_call m.shared id (addr % 4096) bytes (mapping_at o addr)) (w_on m.shared id (addr % 4096) bytes (mapping_at o addr))
   locks_on (command.R addr len) far = alone (r_call m.shared id (addr % 4096) len (mapping_at o addr)) (answers_on m.shared id (reply.Bytes (option_map_or (λ (x : Mapping). take len (drop (addr % 4096) (exposed_bytes m.shared.pages id x.pfn))) (mapping_at o addr) [])) tt)
@@ -283,6 +317,10 @@ module _ (m : Machine) (id : ℕ) (told : Told) where
   locks_on command.Exit far = absurd (far refl)
   locks_on command.Free far = alone (answers m.shared (reply.Number (free_told told))) (answers_on m.shared id (reply.Number (free_told told)) tt)
   locks_on command.Clone far = cloned (clone_refusal m.shared.tables (guest_at id m.shared.tables) (life_at id m.shared.lives) (need (exposed_at id m.shared.pages) (length o.leaves)) told) refl
+  locks_on (command.Gmap granter r) far = handled (command.Gmap granter r) tt
+  locks_on (command.Gunmap h) far = handled (command.Gunmap h) tt
+  locks_on (command.Hr h at n) far = handled (command.Hr h at n) tt
+  locks_on (command.Hw h at bytes) far = handled (command.Hw h at bytes) tt
 
   ends : Kind m id told (locks command.Exit)
   ends = inr (inl (record { machine = refl; reply = refl }))
@@ -302,6 +340,10 @@ module _ (m : Machine) (id : ℕ) (told : Told) where
   kind s command.Exit ahead = ends
   kind s command.Free ahead = locks_on command.Free (λ e. absurd cc)
   kind s command.Clone ahead = locks_on command.Clone (λ e. absurd cc)
+  kind s (command.Gmap granter r) ahead = handled (command.Gmap granter r) tt
+  kind s (command.Gunmap h) ahead = handled (command.Gunmap h) tt
+  kind s (command.Hr h at n) ahead = handled (command.Hr h at n) tt
+  kind s (command.Hw h at bytes) ahead = handled (command.Hw h at bytes) tt
 
   on_settled : (lock : Outcome) (x : LocalResult) → GoesOn lock.reply → KeepsBy o x → GoesOn (out_by lock (option_map (settle o) x)).reply
   on_settled lock None h k = h
@@ -316,6 +358,9 @@ module _ (m : Machine) (id : ℕ) (told : Told) where
   on_called given (Ok a) h = h.on
   on_called given (Err why) h = tt
 
+  handled_goes : (c : Command) → IsOfHandles c → GoesOn (called (λ r. o) (handles_call c)).reply
+  handled_goes c is = on_called (λ r. o) (handles_call c) (handled_on m.shared id (lent o c) told c is)
+
   -- only an exit ends a domain, and only a clone begins one
   pub goes_on : (s : Script) (c : Command) → c ≢ command.Exit → c ≢ command.Clone → GoesOn (does s c).reply
   goes_on s (command.W addr bytes) far off =
@@ -329,6 +374,10 @@ module _ (m : Machine) (id : ℕ) (told : Told) where
   goes_on s command.Exit far off = absurd (far refl)
   goes_on s command.Free far off = tt
   goes_on s command.Clone far off = absurd (off refl)
+  goes_on s (command.Gmap granter r) far off = handled_goes (command.Gmap granter r) tt
+  goes_on s (command.Gunmap h) far off = handled_goes (command.Gunmap h) tt
+  goes_on s (command.Hr h at n) far off = handled_goes (command.Hr h at n) tt
+  goes_on s (command.Hw h at bytes) far off = handled_goes (command.Hw h at bytes) tt
 
   -- the step of a line is what its command does
   pub step_does : (s : Script) (line : ℕ) → step s m (Line id line) told ≡ does s (command_at s (program_run id m.shared.lives) line)
@@ -375,6 +424,10 @@ clone_or (command.JChild label) = inr (λ e. absurd cc)
 clone_or (command.JFail label) = inr (λ e. absurd cc)
 clone_or command.Exit = inr (λ e. absurd cc)
 clone_or command.Free = inr (λ e. absurd cc)
+clone_or (command.Gmap granter r) = inr (λ e. absurd cc)
+clone_or (command.Gunmap h) = inr (λ e. absurd cc)
+clone_or (command.Hr h at n) = inr (λ e. absurd cc)
+clone_or (command.Hw h at bytes) = inr (λ e. absurd cc)
 
 -- a domain that goes on is at no exit
 pub goes_no_exit : (s : Script) (m : Machine) (id : ℕ) (told : Told) (c : Command) → GoesOn (does m id told s c).reply → c ≢ command.Exit

@@ -14,8 +14,8 @@ use Rattle.neph_model.specs.declared.book.Book.{Book}
 use Rattle.neph_model.specs.declared.book.Stage.TheVariants.{Ready}
 use Rattle.neph_model.specs.Memory.{zero_page}
 use Rattle.neph_model.specs.WellFormed.{IsWellFormed, IsWellFormedStart}
-use Rattle.neph_model.specs.Machine.{Exposed, no_own, no_guest}
-use Rattle.neph_model.specs.Start.{start_own, start_life, start_exposed, of_starts}
+use Rattle.neph_model.specs.Machine.{Exposed, no_own, no_guest, guest_at}
+use Rattle.neph_model.specs.Start.{start_own, start_life, start_guest, start_exposed, of_starts}
 use Rattle.neph_model.specs.Books.{no_book, book_of, start_books, start_state}
 use Rattle.neph_runs.specs.Orderly.{seat, ForksWell, IsOrderlyAt, IsOrderly}
 
@@ -56,6 +56,16 @@ no_guests zero id = refl
 no_guests (suc n) zero = refl
 no_guests (suc n) (suc id) = no_guests n id
 
+none_begun : (n k : ℕ) (ts : List Start) (j : ℕ) → (get_or (of_starts {X = Guest} (λ i t. start_guest) n ts ++ replicate k no_guest) j no_guest).begun ≡ []
+none_begun n k [] j = ap (λ (g : Guest). g.begun) (no_guests k j)
+none_begun n k (t ∷ ts) zero = refl
+none_begun n k (t ∷ ts) (suc j) = none_begun (n + 1) k ts j
+
+-- no clone has begun at the start
+pub start_begun : (s : Script) (id : ℕ) → (guest_at id (start_state s).machine.shared.tables).begun ≡ []
+start_begun s zero = refl
+start_begun s (suc j) = none_begun 1 (63 - length s.starts) s.starts j
+
 pub start_orderly : (s : Script) → IsWellFormed s → IsOrderly (start_state s)
 start_orderly s well =
     let n = length s.starts in
@@ -64,7 +74,7 @@ start_orderly s well =
       places = record {
         own = filled (of_starts start_own 1 s.starts) no_own n (count_starts start_own 1 s.starts) few;
         lives = filled (of_starts (λ i t. Some (start_life i t)) 1 s.starts) None n (count_starts (λ i t. Some (start_life i t)) 1 s.starts) few;
-        guests = length-replicate 64 no_guest;
+        guests = filled (of_starts {X = Guest} (λ i t. start_guest) 1 s.starts) no_guest n (count_starts {X = Guest} (λ i t. start_guest) 1 s.starts) few;
         exposed = filled (of_starts {X = Exposed} (λ i t. start_exposed) 1 s.starts) fm.empty n (count_starts {X = Exposed} (λ i t. start_exposed) 1 s.starts) few;
         books = filled (start_books 0 s.starts) no_book n (count_books 0 s.starts) few;
       };
@@ -77,7 +87,6 @@ start_orderly s well =
     seats zero live = absurd (false≢true live)
     seats (suc j) live =
         let opens = opens_at (length s.programs) 1 0 (63 - length s.starts) s.starts well.starts j live in
-        let guest = no_guests 64 (suc j) in
         let stage : (seat (start_state s) (suc j)).book.stage ≡ Ready = ap (λ (b : Book). b.stage) opens.ready in
-        let forks = subst (ForksWell (suc j) (1 + length s.starts) (seat (start_state s) (suc j)).guest.begun) (sym stage) (ap (λ (g : Guest). g.begun) guest) in
+        let forks = subst (ForksWell (suc j) (1 + length s.starts) (seat (start_state s) (suc j)).guest.begun) (sym stage) (start_begun s (suc j)) in
         record { low = omega arith; high = omega (arith, opens.below); forks = forks; pages = opens.pages; colours = opens.colours }

@@ -10,7 +10,6 @@ use Rattle.neph_model.specs.declared.book.Book.{Book}
 use Rattle.neph_model.specs.declared.book.Stage.{Stage}
 use Rattle.neph_model.specs.declared.book.Stage.TheVariants.{Ready, Copying, Forking}
 use Rattle.neph_model.specs.Machine.{sum_live}
-use Rattle.neph_model.specs.Trap.{need}
 use Rattle.neph_model.specs.Books.{Books, State, no_book, free, colours_used, pages_of}
 use Rattle.neph_model.specs.Counting.{cap, exposed_count, holders, exposed_in_flight, IsPossible}
 use Rattle.neph_runs.specs.Orderly.{Seat, seat, ForksWell}
@@ -18,20 +17,20 @@ use Rattle.neph_runs.specs.Work.{all_ids}
 use Rattle.neph_runs.proofs.Sums.{sum_le}
 use Rattle.neph_runs.proofs.Falls.{next_id}
 use Rattle.neph_runs.proofs.Colours.{bit}
-use Rattle.neph_runs.proofs.Accounts.{tables_at, aside_at, frames_used, free_is}
+use Rattle.neph_runs.proofs.Accounts.{need_with, tables_at, aside_at, frames_used, free_is}
 use Rattle.neph_runs.proofs.Rooms.{IsSound}
 use Rattle.neph_runs.proofs.Hues.{AreColoured}
 use Rattle.neph_runs.proofs.Ranges.{alone, alone_pages, hidden_alone, colours_pages, list_ids, sum_plus, sum_times}
 
 -- the exposed pages, the holders and the exposed pages in flight of a seat
 abbrev shows_at : Seat → ℕ
-shows_at x = cond (is_some x.life) (fm.len x.exposed) 0
+shows_at x = cond (is_some x.life) (x.exposed.count) 0
 
 abbrev holds_at : Seat → ℕ
 holds_at x = cond (is_some x.life) (1 + length x.guest.begun) 0
 
 abbrev flies_at : Seat → ℕ
-flies_at x = cond (is_some x.life) (length x.guest.begun * fm.len x.exposed) 0
+flies_at x = cond (is_some x.life) (length x.guest.begun * x.exposed.count) 0
 
 joined : (C T S A c t p a u v kh e f kH E I : ℕ) → C ≤ c → T ≡ t → S ≡ p → A ≡ a → u ≡ c + t + p + a → u ≤ v → v ≡ kh + (e + f) → kh ≡ kH → E ≡ e → I ≡ f → C + T + S + A ≤ kH + (E + I)
 joined C T S A c t p a u v kh e f kH E I h1 h2 h3 h4 h5 h6 h7 h8 h9 h10 = omega arith
@@ -65,7 +64,7 @@ module _ (s : Script) (st : State) (sound : IsSound s st) (all : AreColoured st)
 
   shows_most : (j : ℕ) → shows_at (seat st j) ≤ count_by (alone bs) (seat st j).book.colours
   shows_most j = by (is_some (seat st j).life) refl where
-    by : (b : Bool) → is_some (seat st j).life ≡ b → cond b (fm.len (seat st j).exposed) 0 ≤ count_by (alone bs) (seat st j).book.colours
+    by : (b : Bool) → is_some (seat st j).life ≡ b → cond b ((seat st j).exposed.count) 0 ≤ count_by (alone bs) (seat st j).book.colours
     by false e = omega arith
     by true live =
         let x = seat st j in
@@ -109,10 +108,10 @@ module _ (s : Script) (st : State) (sound : IsSound s st) (all : AreColoured st)
     x = seat st j
 
     n : ℕ
-    n = need x.exposed (length x.own.leaves)
+    n = need_with x.exposed (length x.own.leaves)
 
     by : (b : Bool) → is_some (seat st j).life ≡ b
-        → length x.book.colours + cond b (1 + length x.own.leaves) 0 + bit x.book.spare + cond b (length x.guest.begun * n) 0 ≤ cap s s.starts * cond b (1 + length x.guest.begun) 0 + (cond b (fm.len x.exposed) 0 + cond b (length x.guest.begun * fm.len x.exposed) 0)
+        → length x.book.colours + cond b (1 + length x.own.leaves) 0 + bit x.book.spare + cond b (length x.guest.begun * n) 0 ≤ cap s s.starts * cond b (1 + length x.guest.begun) 0 + (cond b (x.exposed.count) 0 + cond b (length x.guest.begun * x.exposed.count) 0)
     by false dead =
         let none = all.dead j dead in
         let colours = ap (λ (b : Book). length b.colours) none in
@@ -123,7 +122,7 @@ module _ (s : Script) (st : State) (sound : IsSound s st) (all : AreColoured st)
         let o = sound.orderly.seats j live in
         let few = few_begun j (next_id st) x.guest.begun x.book.stage o.forks in
         let capped = h.capped in
-        let most = bound (length x.guest.begun) (length x.own.pages) (length x.own.leaves) (bit x.book.spare) (fm.len x.exposed) (cap s s.starts) few (bit_most x.book.spare) (omega (arith, capped)) in
+        let most = bound (length x.guest.begun) (length x.own.pages) (length x.own.leaves) (bit x.book.spare) (x.exposed.count) (cap s s.starts) few (bit_most x.book.spare) (omega (arith, capped)) in
         omega (arith, most, o.colours)
 
   most : frames_used st ≤ cap s s.starts * holders st.machine.shared + (exposed_count st.machine.shared + exposed_in_flight st.machine.shared)

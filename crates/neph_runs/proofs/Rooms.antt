@@ -21,13 +21,13 @@ use Rattle.neph_model.specs.declared.told.Told.{Told}
 use Rattle.neph_model.specs.declared.told.Told.TheVariants.{Enough, Short, Free}
 use Rattle.neph_model.specs.WellFormed.{IsWellFormed}
 use Rattle.neph_model.specs.Programs.{command_at}
-use Rattle.neph_model.specs.Machine.{no_own, no_guest, own_at, exposed_at, program_of, size_of}
-use Rattle.neph_model.specs.Trap.{need, lacks_frames, begin_clone}
+use Rattle.neph_model.specs.Machine.{no_own, no_guest, own_at, exposed_at, program_of, size_of, guest_at}
+use Rattle.neph_model.specs.Trap.{lacks_frames, begin_clone}
 use Rattle.neph_model.specs.Births.{end_domain}
 use Rattle.neph_model.specs.Step.{Outcome, step}
 use Rattle.neph_model.specs.Books.{Books, State, free, no_book, put_book, book_spent, fresh_spent, shared_count}
 use Rattle.neph_model.specs.Turns.{quietly, book_after, line_turn}
-use Rattle.neph_runs.specs.Orderly.{Seat, seat, IsOrderly}
+use Rattle.neph_runs.specs.Orderly.{Seat, seat, IsOrderly, outline, but_handles}
 use Rattle.neph_runs.proofs.Sums.{same_or}
 use Rattle.neph_runs.proofs.Lines.{Goes, Ends, Begins, line_kind, goes_no_exit, begins_clone}
 use Rattle.neph_runs.proofs.Seats.{OneChanged, book_turns, goes_turns, ends_turns, begins_turns}
@@ -37,7 +37,7 @@ use Rattle.neph_runs.proofs.Says.{Says, WritesWhere}
 use Rattle.neph_runs.proofs.Steps.{Steps}
 use Rattle.neph_runs.proofs.StepsBy.{leaf_of, page_written, command_steps}
 use Rattle.neph_runs.proofs.Colours.{bit, times, times_set, spares_put}
-use Rattle.neph_runs.proofs.Accounts.{aside_at, frames_used, free_is, one_uses, colours_put}
+use Rattle.neph_runs.proofs.Accounts.{aside_at, frames_used, free_is, one_uses, colours_put, need_with}
 use Rattle.neph_runs.proofs.Sound.{AreHalves, steps_halves}
 use Rattle.neph_runs.proofs.Caps.{IsCapped, steps_capped}
 
@@ -162,14 +162,14 @@ module _ (s : Script) (well : IsWellFormed s) (st : State) (id : ℕ) (sound : I
 
   -- a line of a domain that goes on
   goes_sound : (told : Told) (spends : Spends) (out : Outcome) → AtLine x.book.stage → (c : Command) → c ≡ seat_command s x → Says (free s st) st.books x.own x.book c told spends → IsOrderly (after_line st id spends out) → Goes st.machine id out
-      → Steps x.own x.exposed (own_at id out.machine.own) (exposed_at id out.machine.shared.pages) (leaf_of spends) (page_written x.own told c) → IsSound s (after_line st id spends out)
+      → Steps x.own x.exposed (own_at id out.machine.own) (outline (exposed_at id out.machine.shared.pages)) (leaf_of spends) (page_written x.own told c) → IsSound s (after_line st id spends out)
   goes_sound told spends out at c is says orderly g steps =
       let bs = st.books in
       let b0 = book_spent spends bs.fresh x.book in
       let b = book_after x.own out.reply b0 in
       let plain : b ≡ record b0 { stage = Ready } = plain_book x.own out.reply b0 g.on in
       let fresh = fresh_spent spends bs.fresh in
-      let y : Seat = record x { own = g.after; exposed = exposed_at id out.machine.shared.pages; book = b } in
+      let y : Seat = record x { own = g.after; exposed = outline (exposed_at id out.machine.shared.pages); book = b } in
       let new = after_line st id spends out in
       let p = sound.orderly.places in
       let turns = goes_turns st id p within out g b fresh in
@@ -190,7 +190,7 @@ module _ (s : Script) (well : IsWellFormed s) (st : State) (id : ℕ) (sound : I
       let tables_old = ap (λ v. cond v (1 + length x.own.leaves) 0) live in
       let tables_new = ap (λ v. cond v (1 + length g.after.leaves) 0) live in
       let leaves = stepped.leaves in
-      let aside_new : aside_at y ≡ 0 = ap (λ v. cond v (length x.guest.begun * need y.exposed (length g.after.leaves)) 0) live ∙ ap (λ (l : List ℕ). length l * need y.exposed (length g.after.leaves)) none ∙ omega arith in
+      let aside_new : aside_at y ≡ 0 = ap (λ v. cond v (length x.guest.begun * need_with y.exposed (length g.after.leaves)) 0) live ∙ ap (λ (l : List ℕ). length l * need_with y.exposed (length g.after.leaves)) none ∙ omega arith in
       let room = sound.room in
       let room' : frames_used new ≤ s.frames = omega (arith, uses.0, uses.1, spares, colours, room, spare, same_spare, tables_old, tables_new, leaves, aside_new) in
       record { orderly = orderly; seats = one_seats (IsSoundAt s) st new id y sound.seats turns (λ l. record { halves = halves; writes = writes; capped = capped; sized = stepped.pages ∙ h.sized }); room = room' }
@@ -208,7 +208,7 @@ module _ (s : Script) (well : IsWellFormed s) (st : State) (id : ℕ) (sound : I
     ended =
         let bs = st.books in
         let fresh = fresh_spent spends bs.fresh in
-        let y : Seat = record { own = no_own; life = None; guest = no_guest; exposed = fm.empty; book = no_book } in
+        let y : Seat = record { own = no_own; life = None; guest = no_guest; exposed = outline fm.empty; book = no_book } in
         let new = after_line st id spends stopped in
         let turns = ends_turns st id sound.orderly.places within no_book fresh in
         let uses = one_uses st new id y within turns in
@@ -222,7 +222,7 @@ module _ (s : Script) (well : IsWellFormed s) (st : State) (id : ℕ) (sound : I
 
   -- what the begin of a clone comes to
   abbrev begun : Outcome
-  begun = record { machine = record { own = set st.machine.own id (record x.own { refused = false }); shared = record st.machine.shared { tables = begin_clone st.machine.shared.tables id x.guest } }; reply = reply.Begun (next_id st) }
+  begun = record { machine = record { own = set st.machine.own id (record x.own { refused = false }); shared = record st.machine.shared { tables = begin_clone st.machine.shared.tables id (guest_at id st.machine.shared.tables) } }; reply = reply.Begun (next_id st) }
 
   -- the begin of a clone, which puts aside what it needs
   begins_sound : (told : Told) (spends : Spends) (out : Outcome) → AtLine x.book.stage → Says (free s st) st.books x.own x.book command.Clone told spends → IsOrderly (after_line st id spends out) → Begins st.machine id told out → IsSound s (after_line st id spends out)
@@ -237,9 +237,9 @@ module _ (s : Script) (well : IsWellFormed s) (st : State) (id : ℕ) (sound : I
         let b0 = book_spent spends bs.fresh x.book in
         let b : Book = record b0 { stage = Forking (shared_count x.own) } in
         let fresh = fresh_spent spends bs.fresh in
-        let g : Guest = record { accepted = x.guest.accepted + 1; begun = x.guest.begun ++ next_id st ∷ [] } in
+        let g : Guest = record (guest_at id st.machine.shared.tables) { accepted = x.guest.accepted + 1; begun = x.guest.begun ++ next_id st ∷ [] } in
         let o : Own = record x.own { refused = false } in
-        let y : Seat = record x { own = o; guest = g; book = b } in
+        let y : Seat = record x { own = o; guest = but_handles g; book = b } in
         let new = after_line st id spends begun in
         let turns = begins_turns st id sound.orderly.places within g o (next_id st + 1) b fresh in
         let h = sound.seats id live in
@@ -249,7 +249,7 @@ module _ (s : Script) (well : IsWellFormed s) (st : State) (id : ℕ) (sound : I
         let colours = colours_put bs id b fresh (copy_of spends) (fresh_is spends bs.fresh) booked (λ k lt. spent_times spends bs.fresh x.book k lt) in
         let spare = spent_spare spends bs.fresh x.book (says_spares (free s st) bs x.own x.book command.Clone told spends says) in
         let none = none_begun id (next_id st) x.guest.begun x.book.stage at ord.forks in
-        let n = need x.exposed (length x.own.leaves) in
+        let n = need_with x.exposed (length x.own.leaves) in
         let tables_old = ap (λ v. cond v (1 + length x.own.leaves) 0) live in
         let aside_new : aside_at y ≡ n = ap (λ v. cond v (length (x.guest.begun ++ next_id st ∷ []) * n) 0) live ∙ ap (λ (l : List ℕ). length (l ++ next_id st ∷ []) * n) none ∙ omega arith in
         let few = enough_free (free s st) n told said.1 e.frames in
@@ -266,7 +266,7 @@ module _ (s : Script) (well : IsWellFormed s) (st : State) (id : ℕ) (sound : I
       let out = step s m (Line id x.own.line) told in
       let p = sound.orderly.places in
       let orderly = (line_falls s well st id sound.orderly live told spends at).orderly in
-      let steps : c ≢ command.Exit → Steps x.own x.exposed (own_at id out.machine.own) (exposed_at id out.machine.shared.pages) (leaf_of spends) (page_written x.own told c) = λ far.
+      let steps : c ≢ command.Exit → Steps x.own x.exposed (own_at id out.machine.own) (outline (exposed_at id out.machine.shared.pages)) (leaf_of spends) (page_written x.own told c) = λ far.
       command_steps m id told (omega (arith, within, p.own)) (omega (arith, within, p.exposed)) s c x.book st.books (free s st) spends far says in
       let goes : Goes m id out → IsSound s (after_line st id spends out) = λ g. goes_sound told spends out at c refl says orderly g (steps (goes_no_exit s m id told c g.on)) in
       let begins : Begins m id told out → IsSound s (after_line st id spends out) = λ e.

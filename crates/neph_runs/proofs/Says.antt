@@ -39,6 +39,10 @@ Says n bs o b (command.Jump label) Enough Nothing = ⊤
 Says n bs o b (command.JChild label) Enough Nothing = ⊤
 Says n bs o b (command.JFail label) Enough Nothing = ⊤
 Says n bs o b command.Exit Enough Nothing = ⊤
+Says n bs o b (command.Gmap granter r) Enough Nothing = ⊤
+Says n bs o b (command.Gunmap h) Enough Nothing = ⊤
+Says n bs o b (command.Hr h at len) Enough Nothing = ⊤
+Says n bs o b (command.Hw h at bytes) Enough Nothing = ⊤
 Says n bs o b _ _ _ = ⊥
 
 -- what a move has its reason in
@@ -83,6 +87,10 @@ module _ (n : ℕ) (bs : Books) (o : Own) (b : Book) (paused blocked : Bool) (ru
   copying_reasons command.Exit w = absurd cc
   copying_reasons command.Free w = absurd cc
   copying_reasons command.Clone w = absurd cc
+  copying_reasons (command.Gmap granter r) w = absurd cc
+  copying_reasons (command.Gunmap h) w = absurd cc
+  copying_reasons (command.Hr h at len) w = absurd cc
+  copying_reasons (command.Hw h at bytes) w = absurd cc
 
   ready_reasons : (c : Command) → Reasons n bs o b c paused blocked (ready_move n bs o b c)
   ready_reasons (command.W addr bytes) = by (page_to_copy bs o b (mapping_at o addr)) refl where
@@ -101,6 +109,10 @@ module _ (n : ℕ) (bs : Books) (o : Own) (b : Book) (paused blocked : Bool) (ru
   ready_reasons command.Exit = (runs, tt)
   ready_reasons command.Free = (runs, refl)
   ready_reasons command.Clone = (runs, refl)
+  ready_reasons (command.Gmap granter r) = (runs, tt)
+  ready_reasons (command.Gunmap h) = (runs, tt)
+  ready_reasons (command.Hr h at len) = (runs, tt)
+  ready_reasons (command.Hw h at bytes) = (runs, tt)
 
 -- A copying domain is at a write.
 abbrev pub WritesWhere : Stage → Command → Type 0

@@ -13,19 +13,20 @@ use Rattle.neph_model.specs.Machine.{Exposed}
 use Rattle.neph_model.specs.Own.{page_of}
 use Rattle.neph_model.specs.Births.{none_alone, parent_own, child_own, with_changed, child_exposed}
 use Rattle.neph_model.specs.Books.{goes_shared, new_count}
-use Rattle.neph_runs.proofs.Steps.{Steps, hidden, MapsWithin, insert_shown, insert_count}
+use Rattle.neph_runs.specs.Orderly.{Outline, outline}
+use Rattle.neph_runs.proofs.Steps.{Steps, hidden, MapsWithin, insert_shown, insert_count, same_outline}
 
 -- The halves of a domain: each page is in one of them, the device pages are exposed and the identity page isn't, and each virtual page maps to one.
-pub record AreHalves (o : Own) (e : Exposed) : Type 0 where
-  pub hides : hidden o ≡ fm.len e
-  pub apart : (pfn : ℕ) → pfn < length o.pages → is_some (page_of o pfn) ≡ not (is_some (fm.get e pfn))
+pub record AreHalves (o : Own) (e : Outline) : Type 0 where
+  pub hides : hidden o ≡ e.count
+  pub apart : (pfn : ℕ) → pfn < length o.pages → is_some (page_of o pfn) ≡ not (e.has pfn)
   pub maps : MapsWithin o
   pub marks : length o.alone ≡ length o.pages
-  pub devices : (pfn : ℕ) → 0 < pfn → pfn < 4 → is_some (fm.get e pfn) ≡ true
-  pub identity : is_some (fm.get e 0) ≡ false
+  pub devices : (pfn : ℕ) → 0 < pfn → pfn < 4 → e.has pfn ≡ true
+  pub identity : e.has 0 ≡ false
 
 -- a line leaves the halves apart
-pub steps_halves : (o n : Own) (e f : Exposed) (more : ℕ) (wrote : Option ℕ) → Steps o e n f more wrote → AreHalves o e → AreHalves n f
+pub steps_halves : (o n : Own) (e f : Outline) (more : ℕ) (wrote : Option ℕ) → Steps o e n f more wrote → AreHalves o e → AreHalves n f
 steps_halves o n e f more wrote steps h =
     record {
       hides = steps.hides ∙ h.hides ∙ sym steps.count;
@@ -40,7 +41,7 @@ none_size : (alone : List Bool) → length (none_alone alone) ≡ length alone
 none_size [] = refl
 none_size (a ∷ rest) = ap suc (none_size rest)
 
-pub parent_halves : (o : Own) (e : Exposed) → AreHalves o e → AreHalves (parent_own o) e
+pub parent_halves : (o : Own) (e : Outline) → AreHalves o e → AreHalves (parent_own o) e
 parent_halves o e h = record { hides = h.hides; apart = h.apart; maps = h.maps; marks = none_size o.alone ∙ h.marks; devices = h.devices; identity = h.identity }
 
 -- another page in the place of the first, where there is one
@@ -80,17 +81,21 @@ module _ (e : Exposed) where
   pub child_count : fm.len (child_exposed e) ≡ fm.len e
   child_count = changed_count two 3 (λ page. zero_page) ∙ changed_count one 2 child_network_page ∙ changed_count e 1 (λ page. zero_page)
 
-pub child_halves : (child id : ℕ) (o : Own) (e : Exposed) → AreHalves o e → AreHalves (child_own child id o) (child_exposed e)
+-- a child has the exposed pages of its parent
+pub child_outline : (e : Exposed) → outline (child_exposed e) ≡ outline e
+child_outline e = same_outline e (child_exposed e) (child_shown e) (child_count e)
+
+pub child_halves : (child id : ℕ) (o : Own) (e : Outline) → AreHalves o e → AreHalves (child_own child id o) e
 child_halves child id o e h =
     let f : List ℕ → List ℕ = λ page. page_with_identity page child id (length o.pages) in
     let lengths = length-set o.pages 0 (option_map f (page_of o 0)) in
     record {
-      hides = first_hidden o.pages f ∙ h.hides ∙ sym (child_count e);
-      apart = λ pfn lt. first_some o.pages f pfn ∙ h.apart pfn (omega (arith, lt, lengths)) ∙ ap not (sym (child_shown e pfn));
+      hides = first_hidden o.pages f ∙ h.hides;
+      apart = λ pfn lt. first_some o.pages f pfn ∙ h.apart pfn (omega (arith, lt, lengths));
       maps = λ vpn. subst (λ k. IfSome (fm.get o.vmap vpn) (λ (to : Mapping). to.pfn < k)) (sym lengths) (h.maps vpn);
       marks = none_size o.alone ∙ h.marks ∙ sym lengths;
-      devices = λ pfn low high. child_shown e pfn ∙ h.devices pfn low high;
-      identity = child_shown e 0 ∙ h.identity;
+      devices = λ pfn low high. h.devices pfn low high;
+      identity = h.identity;
     }
 
 -- how many new colours a child needs for these pages, which aren't the first

@@ -21,19 +21,18 @@ use Rattle.neph_model.specs.declared.book.Stage.TheVariants.{Ready}
 use Rattle.neph_model.specs.Memory.{zero_page}
 use Rattle.neph_model.specs.WellFormed.{IsWellFormed, IsWellFormedStart, frames_of_starts}
 use Rattle.neph_model.specs.Machine.{Exposed, no_own, size_of}
-use Rattle.neph_model.specs.Trap.{need}
 use Rattle.neph_model.specs.Start.{started_512s, start_own, start_life, start_exposed, start_vmap, start_mode, start_pages, identity_page, of_starts}
 use Rattle.neph_model.specs.Books.{no_book, pages_in, book_of, start_books, start_state, page_count, colours_used, pages_of}
-use Rattle.neph_runs.specs.Orderly.{seat}
+use Rattle.neph_runs.specs.Orderly.{seat, outline}
 use Rattle.neph_runs.specs.Work.{all_ids}
 use Rattle.neph_runs.proofs.Sums.{sum_le}
-use Rattle.neph_runs.proofs.Opening.{start_orderly, opens_at, no_guests}
+use Rattle.neph_runs.proofs.Opening.{start_orderly, opens_at, start_begun}
 use Rattle.neph_runs.proofs.Says.{WritesWhere}
 use Rattle.neph_runs.proofs.Steps.{key_cases, within_insert}
 use Rattle.neph_runs.proofs.Colours.{bit, bit_cases, times, times_cons}
 use Rattle.neph_runs.proofs.Hues.{AreColoured}
 use Rattle.std.proofs.lemmas.Bool.Decides.{leb_tells}
-use Rattle.neph_runs.proofs.Accounts.{tables_at, aside_at}
+use Rattle.neph_runs.proofs.Accounts.{need_with, tables_at, aside_at}
 use Rattle.neph_runs.proofs.Sound.{AreHalves}
 use Rattle.neph_model.specs.Counting.{cap}
 use Rattle.neph_runs.proofs.Caps.{IsCapped, maps_left, cap_head, cap_tail}
@@ -81,7 +80,7 @@ maps_below (suc n) v = within_insert (start_vmap n) n (record { pfn = n; mode = 
   weaker None h = tt
   weaker (Some to) h = omega arith
 
-start_halves : (n programs : ℕ) (t : Start) → IsWellFormedStart programs t → AreHalves (start_own n t) start_exposed
+start_halves : (n programs : ℕ) (t : Start) → IsWellFormedStart programs t → AreHalves (start_own n t) (outline start_exposed)
 start_halves n programs t well =
     let low = well.pages_low in
     let size : length (start_pages n t.pages) ≡ t.pages = omega (arith, length-replicate (t.pages - 4) (Some zero_page)) in
@@ -113,7 +112,7 @@ start_halves n programs t well =
         ap is_some (get_or-replicate (t.pages - 4) j (Some zero_page) None (omega arith)) ∙ ap (λ x. not (is_some x)) (sym none)
 
 halves_at : (programs n k : ℕ) (ts : List Start) → All (IsWellFormedStart programs) ts → (j : ℕ) → is_some (get_or (of_starts (λ i t. Some (start_life i t)) n ts ++ replicate k None) j None) ≡ true
-    → AreHalves (get_or (of_starts start_own n ts ++ replicate k no_own) j no_own) (get_or (of_starts {X = Exposed} (λ i t. start_exposed) n ts ++ replicate k fm.empty) j fm.empty)
+    → AreHalves (get_or (of_starts start_own n ts ++ replicate k no_own) j no_own) (outline (get_or (of_starts {X = Exposed} (λ i t. start_exposed) n ts ++ replicate k fm.empty) j fm.empty))
 halves_at programs n zero [] all j live = absurd (false≢true live)
 halves_at programs n (suc k) [] all zero live = absurd (false≢true live)
 halves_at programs n (suc k) [] all (suc j) live = halves_at programs n k [] all j live
@@ -179,8 +178,8 @@ start_aside s =
     let f : ℕ → ℕ = λ id. aside_at (seat (start_state s) id) in
     let each : (id : ℕ) → 0 ≤ id → id < 64 → f id ≤ 0 = λ id low high.
     let x = seat (start_state s) id in
-    let n = need x.exposed (length x.own.leaves) in
-    let none : length x.guest.begun ≡ 0 = ap (λ (g : Guest). length g.begun) (no_guests 64 id) in
+    let n = need_with x.exposed (length x.own.leaves) in
+    let none : length x.guest.begun ≡ 0 = ap (λ l. length l) (start_begun s id) in
     let zero : length x.guest.begun * n ≡ 0 = ap (λ k. k * n) none ∙ omega arith in
     most (is_some x.life) (length x.guest.begun * n) zero in
     let sums = sum_le (λ j. 0) f 0 64 each in

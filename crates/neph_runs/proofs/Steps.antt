@@ -13,8 +13,12 @@ use Rattle.std.proofs.lemmas.List.Sums.{sum_by-cons}
 use Rattle.neph_base.specs.declared.command.Mode.{Mode}
 use Rattle.neph_model.specs.declared.own.Own.{Own}
 use Rattle.neph_model.specs.declared.memory.Mapping.{Mapping}
-use Rattle.neph_model.specs.Machine.{Exposed}
+use Rattle.neph_model.specs.Memory.{page_with_bytes}
+use Rattle.neph_model.specs.Machine.{Exposed, exposed_at}
+use Rattle.neph_model.specs.Trap.{is_exposed, exposed_bytes, with_exposed_bytes}
 use Rattle.neph_model.specs.Own.{page_of, with_alone, with_bytes, with_mapping, with_leaf}
+use Rattle.neph_laws.proofs.HandleRows.{put_as}
+use Rattle.neph_runs.specs.Orderly.{Outline, outline}
 use Rattle.neph_runs.proofs.Sums.{same_or}
 
 -- how many pages of an own half are exposed
@@ -26,23 +30,23 @@ abbrev pub MapsWithin : Own → Type 0
 MapsWithin o = (vpn : ℕ) → IfSome (fm.get o.vmap vpn) (λ (to : Mapping). to.pfn < length o.pages)
 
 -- What a line leaves of an own half and its exposed pages: the same pages in each half, so many more leaf tables, and no page newly known to be alone but an exposed one or the one that was written.
-pub record Steps (o : Own) (e : Exposed) (n : Own) (f : Exposed) (more : ℕ) (wrote : Option ℕ) : Type 0 where
+pub record Steps (o : Own) (e : Outline) (n : Own) (f : Outline) (more : ℕ) (wrote : Option ℕ) : Type 0 where
   pub pages : length n.pages ≡ length o.pages
   pub halves : (pfn : ℕ) → is_some (page_of n pfn) ≡ is_some (page_of o pfn)
   pub hides : hidden n ≡ hidden o
-  pub shown : (pfn : ℕ) → is_some (fm.get f pfn) ≡ is_some (fm.get e pfn)
-  pub count : fm.len f ≡ fm.len e
+  pub shown : (pfn : ℕ) → f.has pfn ≡ e.has pfn
+  pub count : f.count ≡ e.count
   pub maps : MapsWithin o → MapsWithin n
   pub leaves : length n.leaves ≡ length o.leaves + more
   pub marks : length n.alone ≡ length o.alone
-  pub alone : (pfn : ℕ) → get_or n.alone pfn false ≡ true → ((get_or o.alone pfn false ≡ true) ⊎ (is_some (fm.get e pfn) ≡ true)) ⊎ (wrote ≡ Some pfn)
+  pub alone : (pfn : ℕ) → get_or n.alone pfn false ≡ true → ((get_or o.alone pfn false ≡ true) ⊎ (e.has pfn ≡ true)) ⊎ (wrote ≡ Some pfn)
 
 -- nothing but line and marks changed
-pub steps_same : (o : Own) (e : Exposed) (line : ℕ) (refused : Bool) (wrote : Option ℕ) → Steps o e (record o { line = line; refused = refused }) e 0 wrote
+pub steps_same : (o : Own) (e : Outline) (line : ℕ) (refused : Bool) (wrote : Option ℕ) → Steps o e (record o { line = line; refused = refused }) e 0 wrote
 steps_same o e line refused wrote =
     record { pages = refl; halves = λ pfn. refl; hides = refl; shown = λ pfn. refl; count = refl; maps = λ h. h; leaves = omega arith; marks = refl; alone = λ pfn h. inl (inl h) }
 
-pub steps_line : (o : Own) (e : Exposed) (n : Own) (f : Exposed) (more : ℕ) (wrote : Option ℕ) (line : ℕ) (refused : Bool) → Steps o e n f more wrote → Steps o e (record n { line = line; refused = refused }) f more wrote
+pub steps_line : (o : Own) (e : Outline) (n : Own) (f : Outline) (more : ℕ) (wrote : Option ℕ) (line : ℕ) (refused : Bool) → Steps o e n f more wrote → Steps o e (record n { line = line; refused = refused }) f more wrote
 steps_line o e n f more wrote line refused h =
     record { pages = h.pages; halves = h.halves; hides = h.hides; shown = h.shown; count = h.count; maps = h.maps; leaves = h.leaves; marks = h.marks; alone = h.alone }
 
@@ -69,7 +73,7 @@ alone_set : (alone : List Bool) (pfn at : ℕ) → get_or (set alone pfn true) a
 alone_set alone pfn at h = same_or at pfn (λ e. inr (ap Some (sym e))) (λ ne. inl (sym (get_or-set_other alone pfn at true false ne) ∙ h))
 
 -- a write to a page of its own
-pub steps_bytes : (o : Own) (e : Exposed) (pfn : ℕ) (page : List ℕ) (at : ℕ) (bytes : List ℕ) → page_of o pfn ≡ Some page → Steps o e (with_bytes o pfn page at bytes) e 0 (Some pfn)
+pub steps_bytes : (o : Own) (e : Outline) (pfn : ℕ) (page : List ℕ) (at : ℕ) (bytes : List ℕ) → page_of o pfn ≡ Some page → Steps o e (with_bytes o pfn page at bytes) e 0 (Some pfn)
 steps_bytes o e pfn page at bytes is =
     let some : is_some (page_of o pfn) ≡ true = ap is_some is in
     let lengths = length-set o.pages pfn _ in
@@ -86,7 +90,7 @@ steps_bytes o e pfn page at bytes is =
     }
 
 -- an exposed page that was written
-pub steps_alone : (o : Own) (e f : Exposed) (pfn : ℕ) (wrote : Option ℕ) → is_some (fm.get e pfn) ≡ true → ((q : ℕ) → is_some (fm.get f q) ≡ is_some (fm.get e q)) → fm.len f ≡ fm.len e → Steps o e (with_alone o pfn) f 0 wrote
+pub steps_alone : (o : Own) (e f : Outline) (pfn : ℕ) (wrote : Option ℕ) → e.has pfn ≡ true → ((q : ℕ) → f.has q ≡ e.has q) → f.count ≡ e.count → Steps o e (with_alone o pfn) f 0 wrote
 steps_alone o e f pfn wrote some shown count =
     record {
       pages = refl;
@@ -97,7 +101,7 @@ steps_alone o e f pfn wrote some shown count =
       maps = λ h. h;
       leaves = omega arith;
       marks = length-set o.alone pfn true;
-      alone = λ q h. elim (alone_set o.alone pfn q h) [ inl k ↦ inl (inl k) | inr k ↦ inl (inr (ap (λ x. is_some (fm.get e x)) (sym (same_key k)) ∙ some)) ];
+      alone = λ q h. elim (alone_set o.alone pfn q h) [ inl k ↦ inl (inl k) | inr k ↦ inl (inr (ap (λ x. e.has x) (sym (same_key k)) ∙ some)) ];
     }
 
 -- two keys are the same, or told apart
@@ -118,6 +122,17 @@ insert_shown e k v q some = elim (key_cases q k) [
 pub insert_count : (e : Exposed) (k : ℕ) (v : List ℕ) → is_some (fm.get e k) ≡ true → fm.len (fm.insert e k v) ≡ fm.len e
 insert_count e k v some = len-insert nat_cmp_total e k v ∙ ap (λ b. cond b (fm.len e) (fm.len e + 1)) some
 
+-- pages that are exposed as these are have the same outline
+pub same_outline : (e f : Exposed) → ((q : ℕ) → is_some (fm.get f q) ≡ is_some (fm.get e q)) → fm.len f ≡ fm.len e → outline f ≡ outline e
+same_outline e f shown count = λ i. record { has = λ q. shown q i; count = count i }
+
+pub insert_outline : (e : Exposed) (k : ℕ) (v : List ℕ) → is_some (fm.get e k) ≡ true → outline (fm.insert e k v) ≡ outline e
+insert_outline e k v some = same_outline e (fm.insert e k v) (λ q. insert_shown e k v q some) (insert_count e k v some)
+
+pub written_outline : (pages : List Exposed) (id pfn at : ℕ) (bytes : List ℕ) → is_exposed pages id pfn ≡ true → (j : ℕ) → outline (exposed_at j (with_exposed_bytes pages id pfn at bytes)) ≡ outline (exposed_at j pages)
+written_outline pages id pfn at bytes has =
+    put_as outline pages id (fm.insert (exposed_at id pages) pfn (page_with_bytes (exposed_bytes pages id pfn) at bytes)) fm.empty (insert_outline (exposed_at id pages) pfn _ has)
+
 pub within_insert : (m : fm.FinMap nat_cmp Mapping) (vpn : ℕ) (to : Mapping) (n : ℕ) → to.pfn < n → ((v : ℕ) → IfSome (fm.get m v) (λ (x : Mapping). x.pfn < n)) → (v : ℕ) → IfSome (fm.get (fm.insert m vpn to) v) (λ (x : Mapping). x.pfn < n)
 within_insert m vpn to n lt h v = subst (λ x. IfSome x (λ (x : Mapping). x.pfn < n)) (sym (get-insert nat_cmp_total m vpn to v)) (by (eq_by_cmp nat_cmp v vpn)) where
   by : (b : Bool) → IfSome (cond b (Some to) (fm.get m v)) (λ (x : Mapping). x.pfn < n)
@@ -131,7 +146,7 @@ within_remove m vpn n h v = subst (λ x. IfSome x (λ (x : Mapping). x.pfn < n))
   by false = h v
 
 -- a mapping, with a new leaf table or without
-pub steps_mapping : (o : Own) (e : Exposed) (vpn pfn : ℕ) (mode : Mode) → pfn < length o.pages → Steps o e (with_mapping o vpn pfn mode) e 0 None
+pub steps_mapping : (o : Own) (e : Outline) (vpn pfn : ℕ) (mode : Mode) → pfn < length o.pages → Steps o e (with_mapping o vpn pfn mode) e 0 None
 steps_mapping o e vpn pfn mode lt =
     record {
       pages = refl;
@@ -145,12 +160,12 @@ steps_mapping o e vpn pfn mode lt =
       alone = λ q h. inl (inl h);
     }
 
-pub steps_leaf : (o : Own) (e : Exposed) (vpn pfn : ℕ) (mode : Mode) → pfn < length o.pages → Steps o e (with_leaf (with_mapping o vpn pfn mode) vpn) e 1 None
+pub steps_leaf : (o : Own) (e : Outline) (vpn pfn : ℕ) (mode : Mode) → pfn < length o.pages → Steps o e (with_leaf (with_mapping o vpn pfn mode) vpn) e 1 None
 steps_leaf o e vpn pfn mode lt =
     let h = steps_mapping o e vpn pfn mode lt in
     record { pages = refl; halves = λ q. refl; hides = refl; shown = λ q. refl; count = refl; maps = h.maps; leaves = length-append o.leaves (vpn / 512 ∷ []); marks = refl; alone = λ q h. inl (inl h) }
 
-pub steps_unmap : (o : Own) (e : Exposed) (vpn : ℕ) → Steps o e (record o { vmap = fm.remove o.vmap vpn }) e 0 None
+pub steps_unmap : (o : Own) (e : Outline) (vpn : ℕ) → Steps o e (record o { vmap = fm.remove o.vmap vpn }) e 0 None
 steps_unmap o e vpn =
     record {
       pages = refl;

@@ -25,13 +25,16 @@ use Rattle.neph_model.specs.Programs.{label_line_at}
 use Rattle.neph_model.specs.Counting.{is_map}
 use Rattle.neph_model.specs.Machine.{Machine, Exposed, no_own, own_at, guest_at, life_at, exposed_at, program_run, put_own}
 use Rattle.neph_model.specs.Own.{LocalResult, page_of, mapping_at, with_alone, with_bytes, with_mapping, with_leaf, is_bad_pfn, has_leaf, w_step, r_step, leaf_step, map_step, unmap_step, settle, jump_step}
-use Rattle.neph_model.specs.Trap.{CallResult, answers, is_exposed, exposed_bytes, with_exposed_bytes, w_call, free_told, need, clone_refusal, clone_call}
+use Rattle.neph_model.specs.Trap.{CallResult, answers, is_exposed, exposed_bytes, with_exposed_bytes, w_call, trap, free_told, need, clone_refusal, clone_call}
 use Rattle.neph_model.specs.Memory.{page_with_bytes}
+use Rattle.neph_model.specs.Lent.{Lent, lent}
 use Rattle.neph_model.specs.Step.{Outcome}
 use Rattle.neph_model.specs.Books.{Books}
+use Rattle.neph_laws.proofs.HandleRows.{IsOfHandles, handle_row}
+use Rattle.neph_runs.specs.Orderly.{Outline, outline}
 use Rattle.neph_runs.proofs.Lines.{out_by, called, locks, does}
 use Rattle.neph_runs.proofs.Says.{Says}
-use Rattle.neph_runs.proofs.Steps.{Steps, steps_same, steps_line, steps_bytes, steps_alone, steps_mapping, steps_leaf, steps_unmap, insert_shown, insert_count}
+use Rattle.neph_runs.proofs.Steps.{Steps, steps_same, steps_line, steps_bytes, steps_alone, steps_mapping, steps_leaf, steps_unmap, insert_shown, insert_count, written_outline}
 
 -- how many leaf tables a spare becomes
 abbrev pub leaf_of : Spends → ℕ
@@ -58,12 +61,15 @@ module _ (m : Machine) (id : ℕ) (told : Told) (owns : id < length m.own) (expo
   abbrev o : Own
   o = own_at id m.own
 
-  abbrev e : Exposed
-  e = exposed_at id m.shared.pages
+  abbrev shown : Exposed
+  shown = exposed_at id m.shared.pages
+
+  abbrev e : Outline
+  e = outline shown
 
   -- so an outcome leaves the domain
   abbrev pub Leaves : ℕ → Option ℕ → Outcome → Type 0
-  Leaves more wrote out = Steps o e (own_at id out.machine.own) (exposed_at id out.machine.shared.pages) more wrote
+  Leaves more wrote out = Steps o e (own_at id out.machine.own) (outline (exposed_at id out.machine.shared.pages)) more wrote
 
   put : (n : Own) (r : Reply) (more : ℕ) (wrote : Option ℕ) → Steps o e n e more wrote → Leaves more wrote (record { machine = put_own id n m; reply = r })
   put n r more wrote h = subst (λ x. Steps o e x e more wrote) (sym (get_or-set_same m.own id n no_own owns)) h
@@ -105,14 +111,14 @@ module _ (m : Machine) (id : ℕ) (told : Told) (owns : id < length m.own) (expo
     mode_call Rw = with
 
     f : Exposed
-    f = fm.insert e to.pfn (page_with_bytes (exposed_bytes m.shared.pages id to.pfn) at bytes)
+    f = fm.insert shown to.pfn (page_with_bytes (exposed_bytes m.shared.pages id to.pfn) at bytes)
 
     done : is_exposed m.shared.pages id to.pfn ≡ true → Leaves 0 wrote (called m id told (given (Some to)) with)
     done some =
         let n : Own = record (with_alone o to.pfn) { line = o.line + 1; refused = false } in
-        subst (λ x. Steps o e x (exposed_at id (set m.shared.pages id f)) 0 wrote) (sym (get_or-set_same m.own id n no_own owns))
-        (subst (λ x. Steps o e n x 0 wrote) (sym (get_or-set_same m.shared.pages id f fm.empty exposes))
-        (steps_line o e (with_alone o to.pfn) f 0 wrote (o.line + 1) false (steps_alone o e f to.pfn wrote some (λ q. insert_shown e to.pfn _ q some) (insert_count e to.pfn _ some))))
+        subst (λ x. Steps o e x (outline (exposed_at id (set m.shared.pages id f))) 0 wrote) (sym (get_or-set_same m.own id n no_own owns))
+        (subst (λ (x : Exposed). Steps o e n (outline x) 0 wrote) (sym (get_or-set_same m.shared.pages id f fm.empty exposes))
+        (steps_line o e (with_alone o to.pfn) (outline f) 0 wrote (o.line + 1) false (steps_alone o e (outline f) to.pfn wrote some (λ q. insert_shown shown to.pfn _ q some) (insert_count shown to.pfn _ some))))
 
     by : (b : Bool) (mode : Mode) → is_exposed m.shared.pages id to.pfn ≡ b → Leaves 0 wrote (called m id told (given (Some to)) (cond b (mode_call mode) (Err NoFrame)))
     by true Ro some = same (o.line + 1) true (reply.Refused ReadOnly) wrote
@@ -157,6 +163,14 @@ module _ (m : Machine) (id : ℕ) (told : Told) (owns : id < length m.own) (expo
   cloned : (why : Option Refusal) → Leaves 0 None (called m id told (λ r. o) (clone_call m.shared id (guest_at id m.shared.tables) why))
   cloned (Some why) = same (o.line + 1) true (reply.Refused why) None
   cloned None = same o.line false (reply.Begun m.shared.tables.next) None
+
+  -- a command of handles leaves the domain's half but for its line and mark, and its exposed pages where they were
+  handled : (c : Command) (l : Lent) → IsOfHandles c → Leaves 0 None (called m id told (λ r. o) (trap m.shared id (guest_at id m.shared.tables) l told c))
+  handled c l is =
+      handle_row m.shared id (guest_at id m.shared.tables) (λ x. Leaves 0 None (called m id told (λ r. o) x)) (λ why plain. same (o.line + 1) true (reply.Refused why) None) (λ bytes. same (o.line + 1) false (reply.Bytes bytes) None)
+      (λ hs h. same (o.line + 1) false (reply.Number h) None) (λ hs. same (o.line + 1) false reply.Done None)
+      (λ granter pfn at bytes there.
+      subst (λ x. Steps o e (own_at id (set m.own id (record o { line = o.line + 1; refused = false }))) x 0 None) (sym (written_outline m.shared.pages granter pfn at bytes there id)) (same (o.line + 1) false reply.Done None)) l told c is
 
   not_bad : (vpn pfn : ℕ) (mode : Mode) → is_bad_pfn o pfn mode ≡ false → pfn < length o.pages
   not_bad vpn pfn Ro h = leb-false (length o.pages) pfn h
@@ -233,3 +247,15 @@ module _ (m : Machine) (id : ℕ) (told : Told) (owns : id < length m.own) (expo
       subst (λ k. Leaves k None (does m id told s command.Free)) (no_leaf command.Free b bs n told spends says refl) (same (o.line + 1) false (reply.Number (free_told told)) None)
   command_steps s command.Clone b bs n spends far says =
       subst (λ k. Leaves k None (does m id told s command.Clone)) (no_leaf command.Clone b bs n told spends says refl) (cloned (clone_refusal m.shared.tables (guest_at id m.shared.tables) (life_at id m.shared.lives) (need (exposed_at id m.shared.pages) (length o.leaves)) told))
+  command_steps s (command.Gmap granter r) b bs n spends far says =
+      let c = command.Gmap granter r in
+      subst (λ k. Leaves k None (does m id told s c)) (no_leaf c b bs n told spends says refl) (handled c (lent o c) tt)
+  command_steps s (command.Gunmap h) b bs n spends far says =
+      let c = command.Gunmap h in
+      subst (λ k. Leaves k None (does m id told s c)) (no_leaf c b bs n told spends says refl) (handled c (lent o c) tt)
+  command_steps s (command.Hr h at len) b bs n spends far says =
+      let c = command.Hr h at len in
+      subst (λ k. Leaves k None (does m id told s c)) (no_leaf c b bs n told spends says refl) (handled c (lent o c) tt)
+  command_steps s (command.Hw h at bytes) b bs n spends far says =
+      let c = command.Hw h at bytes in
+      subst (λ k. Leaves k None (does m id told s c)) (no_leaf c b bs n told spends says refl) (handled c (lent o c) tt)

@@ -24,7 +24,7 @@ use Rattle.neph_model.specs.declared.told.Told.{Told}
 use Rattle.neph_model.specs.declared.told.Told.TheVariants.{Enough, Short, Free}
 use Rattle.neph_model.specs.Machine.{Machine, own_at, guest_at, life_at, exposed_at, program_run}
 use Rattle.neph_model.specs.Own.{LocalResult, page_of, mapping_at, with_alone, with_bytes, with_mapping, with_leaf, is_bad_pfn, has_leaf, w_step, r_step, leaf_step, map_step, unmap_step, settle, jump_step}
-use Rattle.neph_model.specs.Trap.{CallResult, answers, is_exposed, with_exposed_bytes, w_call, r_call, need, lacks_frames, clone_refusal, clone_call}
+use Rattle.neph_model.specs.Trap.{CallResult, answers, is_exposed, with_exposed_bytes, w_call, r_call, trap, need, lacks_frames, clone_refusal, clone_call}
 use Rattle.neph_model.specs.Programs.{label_line_at}
 use Rattle.neph_model.specs.Step.{Outcome}
 use Rattle.neph_model.specs.Books.{Books}
@@ -33,6 +33,9 @@ use Rattle.neph_model.specs.Counting.{frames_counted, may_be_shared, lacks_well}
 use Rattle.neph_model.specs.Legal.{told_of}
 use Rattle.neph_runs.proofs.Lines.{out_by, called, locks, does}
 use Rattle.neph_runs.proofs.Says.{Says}
+use Rattle.neph_model.specs.Lent.{lent}
+use Rattle.neph_laws.proofs.HandleRows.{IsOfHandles, IsPlainWhy, handle_row}
+use Rattle.neph_runs.specs.Orderly.{outline}
 use Rattle.neph_runs.proofs.Sound.{AreHalves}
 use Rattle.neph_runs.proofs.Rooms.{clone_says}
 
@@ -40,7 +43,13 @@ use Rattle.neph_runs.proofs.Rooms.{clone_says}
 abbrev pub Counted : ℕ → Own → Command → Reply → Type 0
 Counted n o c r = IfSome (frames_counted c r) (λ k. k ≡ n) × (lacks_well o c r ≡ true)
 
-module _ (m : Machine) (id : ℕ) (halves : AreHalves (own_at id m.own) (exposed_at id m.shared.pages)) where
+not_short : Short ≡ Enough → ⊥
+not_short e = cc
+
+not_free : (f : ℕ) → Free f ≡ Enough → ⊥
+not_free f e = cc
+
+module _ (m : Machine) (id : ℕ) (halves : AreHalves (own_at id m.own) (outline (exposed_at id m.shared.pages))) where
   abbrev o : Own
   o = own_at id m.own
 
@@ -224,6 +233,31 @@ module _ (m : Machine) (id : ℕ) (halves : AreHalves (own_at id m.own) (exposed
   free_says n bs b (Free f) Leaf h = absurd h
   free_says n bs b (Free f) (Copy pfn) h = absurd h
 
+  -- a reply that counts no frames, of a command of handles
+  abbrev Plain : Reply → Type 0
+  Plain (reply.Refused why) = IsPlainWhy why
+  Plain _ = ⊤
+
+  plain_counts : (n : ℕ) (c : Command) (r : Reply) → IsOfHandles c → Plain r → Counted n o c r
+  plain_counts n (command.Gmap granter r) (reply.Refused NoFrame) is p = absurd (not_short p)
+  plain_counts n (command.Gmap granter r) (reply.Refused (Frames need free)) is p = absurd (not_free free p)
+  plain_counts n (command.Gmap granter r) _ is p = (tt, refl)
+  plain_counts n (command.Gunmap h) (reply.Refused NoFrame) is p = absurd (not_short p)
+  plain_counts n (command.Gunmap h) (reply.Refused (Frames need free)) is p = absurd (not_free free p)
+  plain_counts n (command.Gunmap h) _ is p = (tt, refl)
+  plain_counts n (command.Hr h at len) (reply.Refused NoFrame) is p = absurd (not_short p)
+  plain_counts n (command.Hr h at len) (reply.Refused (Frames need free)) is p = absurd (not_free free p)
+  plain_counts n (command.Hr h at len) _ is p = (tt, refl)
+  plain_counts n (command.Hw h at bytes) (reply.Refused NoFrame) is p = absurd (not_short p)
+  plain_counts n (command.Hw h at bytes) (reply.Refused (Frames need free)) is p = absurd (not_free free p)
+  plain_counts n (command.Hw h at bytes) _ is p = (tt, refl)
+  plain_counts n _ r is p = absurd is
+
+  handles_count : (n : ℕ) (c : Command) (t : Told) → IsOfHandles c → Counted n o c (called m id t (λ r. o) (trap m.shared id (guest_at id m.shared.tables) (lent o c) t c)).reply
+  handles_count n c t is =
+      handle_row m.shared id (guest_at id m.shared.tables) (λ x. Counted n o c (called m id t (λ r. o) x).reply) (λ why plain. plain_counts n c (reply.Refused why) is plain) (λ bytes. plain_counts n c (reply.Bytes bytes) is tt)
+      (λ hs h. plain_counts n c (reply.Number h) is tt) (λ hs. plain_counts n c reply.Done is tt) (λ granter pfn at bytes there. plain_counts n c reply.Done is tt) (lent o c) t c is
+
   pub line_tells : (s : Script) (n : ℕ) (bs : Books) (b : Book) (c : Command) (t : Told) (sp : Spends) → Says n bs o b c t sp → ((addr pfn : ℕ) → page_to_copy bs o b (mapping_at o addr) ≡ Some pfn → may_be_shared o (mapping_at o addr) ≡ true) → Tells n c (λ t. does m id t s c) t
   line_tells s n bs b (command.W addr bytes) t sp says may = w_tells n addr bytes bs b t (mapping_at o addr) refl (w_says n addr bytes bs b t sp says) (λ pfn e. may addr pfn e)
   line_tells s n bs b (command.R addr len) t sp says may = (refl, r_tells n addr len t (mapping_at o addr))
@@ -235,3 +269,7 @@ module _ (m : Machine) (id : ℕ) (halves : AreHalves (own_at id m.own) (exposed
   line_tells s n bs b command.Exit t sp says may = (refl, (tt, refl))
   line_tells s n bs b command.Free t sp says may = free_tells n t s (free_says n bs b t sp says)
   line_tells s n bs b command.Clone t sp says may = clone_tells n t (clone_says n bs o b t sp says).1
+  line_tells s n bs b (command.Gmap granter r) t sp says may = (refl, handles_count n (command.Gmap granter r) t tt)
+  line_tells s n bs b (command.Gunmap h) t sp says may = (refl, handles_count n (command.Gunmap h) t tt)
+  line_tells s n bs b (command.Hr h at len) t sp says may = (refl, handles_count n (command.Hr h at len) t tt)
+  line_tells s n bs b (command.Hw h at bytes) t sp says may = (refl, handles_count n (command.Hw h at bytes) t tt)

@@ -1,5 +1,6 @@
 -- What holds of each state that the turns come to.
-use Rattle.std.specs.Prelude.{ℕ, ◌≡◌, ◌<◌, ◌≤◌, List, [], ◌∷◌, length, Option, true, is_some}
+use Rattle.std.specs.Prelude.{ℕ, Bool, ◌≡◌, ◌<◌, ◌≤◌, List, [], ◌∷◌, length, Option, true, is_some}
+use Rattle.std.specs.FinMap as fm
 use Rattle.neph_model.specs.declared.own.Own.{Own}
 use Rattle.neph_model.specs.declared.life.Life.{Life}
 use Rattle.neph_model.specs.declared.life.Guest.{Guest}
@@ -9,12 +10,24 @@ use Rattle.neph_model.specs.declared.book.Stage.TheVariants.{Ready, Copying, For
 use Rattle.neph_model.specs.Machine.{Exposed, own_at, life_at, guest_at, exposed_at}
 use Rattle.neph_model.specs.Books.{State, book_at}
 
--- all that is kept of an id
+-- which pages of a domain are exposed, and how many
+pub record Outline : Type 0 where
+  pub has : ℕ → Bool
+  pub count : ℕ
+
+abbrev pub outline : Exposed → Outline
+outline e = record { has = λ pfn. is_some (fm.get e pfn); count = fm.len e }
+
+-- what is kept of a domain, but for its handles
+abbrev pub but_handles : Guest → Guest
+but_handles g = record g { handles = fm.empty }
+
+-- what is kept of an id, but for its handles and the bytes of its exposed pages
 pub record Seat : Type 0 where
   pub own : Own
   pub life : Option Life
   pub guest : Guest
-  pub exposed : Exposed
+  pub exposed : Outline
   pub book : Book
 
 -- what is kept of an id in a state
@@ -24,8 +37,8 @@ seat st id =
     record {
       own = own_at id st.machine.own;
       life = life_at id sh.lives;
-      guest = guest_at id sh.tables;
-      exposed = exposed_at id sh.pages;
+      guest = but_handles (guest_at id sh.tables);
+      exposed = outline (exposed_at id sh.pages);
       book =
           book_at id st.books;
     }
