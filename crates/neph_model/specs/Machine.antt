@@ -48,6 +48,10 @@ no_own = record {
 abbrev pub no_guest : Guest
 no_guest = record { accepted = 0; begun = []; grants = map.empty; handles = map.empty }
 
+-- what is kept of a domain, but for its handles
+abbrev pub but_handles : Guest → Guest
+but_handles g = record g { handles = map.empty }
+
 -- the own half of an id
 abbrev pub own_at : ℕ → List Own → Own
 own_at id own = slice_index_or own id no_own

@@ -6,7 +6,7 @@ use Rattle.neph_model.specs.declared.life.Life.{Life}
 use Rattle.neph_model.specs.declared.life.Guest.{Guest}
 use Rattle.neph_model.specs.declared.life.Cloned.{Cloned}
 use Rattle.neph_model.specs.Machine.{Exposed, life_at, guest_at, no_guest, exposed_at}
-use Rattle.neph_model.specs.Births.{commit, child_exposed}
+use Rattle.neph_model.specs.Births.{commit, child_guest, child_exposed}
 use Rattle.neph_model.specs.Step.{locked, shared_commit}
 use Rattle.std.proofs.lemmas.List.{get_or_default}
 use Rattle.neph_rows.specs.Records.{Records, shared_of, records_in}
@@ -33,7 +33,7 @@ commit_row r new pages after dom child left begun b n p =
 -- the tables that a commit leaves
 pub commit_made : (r : Records) (dom child : ℕ) (left : List ℕ) (lives : List (Option Life)) (guests : List Guest) (waiting : List Cloned)
     → lives ≡ set r.lives child (option_map (λ (l : Life). record l { parent = dom }) (life_at dom r.lives))
-    → guests ≡ set (set r.tables.guests dom (record (guest_at dom r.tables) { begun = left })) child no_guest
+    → guests ≡ set (set r.tables.guests dom (record (guest_at dom r.tables) { begun = left })) child (child_guest (guest_at dom r.tables))
     → waiting ≡ r.tables.waiting ++ record { parent = dom; child = child } ∷ []
     → made lives guests r.tables.next waiting ≡ records_in (commit (shared_of r []) dom child left)
 commit_made r dom child left lives guests waiting l g w = same_records lives _ guests _ r.tables.next waiting _ l g w

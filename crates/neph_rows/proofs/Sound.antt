@@ -7,7 +7,7 @@ use Rattle.neph_model.specs.declared.life.Life.{Life}
 use Rattle.neph_model.specs.declared.life.Guest.{Guest}
 use Rattle.neph_model.specs.declared.life.Cloned.{Cloned}
 use Rattle.neph_model.specs.Machine.{Exposed, Tables, life_at, guest_at, no_guest, is_live}
-use Rattle.neph_model.specs.Births.{commit, end_domain}
+use Rattle.neph_model.specs.Births.{commit, child_guest, end_domain}
 use Rattle.neph_model.specs.Trap.{begin_clone}
 use Rattle.neph_rows.specs.Records.{Records, shared_of, records_in}
 use Rattle.neph_rows.specs.Sound.{IsChildOf, IsSoundGuest, IsSoundLife, IsPair, IsSoundRecords, MayBegin}
@@ -97,12 +97,12 @@ sound_commit r pages id child left h live e =
     let pair : Cloned = record { parent = id; child = child } in
     record {
       places = length-set r.lives child born ∙ h.places;
-      guests = length-set (set t.guests id parent) child no_guest ∙ length-set t.guests id parent ∙ h.guests;
+      guests = length-set (set t.guests id parent) child (child_guest g) ∙ length-set t.guests id parent ∙ h.guests;
       next_low = h.next_low;
       next_high = h.next_high;
       first = first_set r.lives child born (omega (arith, ones.0.0)) ∙ h.first;
       lives = each_set (λ j o. IfSome o (IsSoundLife next j)) r.lives child born None h.lives (born_life next id child (life_at id r.lives) ones.0.1 (h.lives id));
-      each = each_set (IsSoundGuest next) (set t.guests id parent) child no_guest no_guest (each_set (IsSoundGuest next) t.guests id parent no_guest h.each kept) (nothing_kept next child);
+      each = each_set (IsSoundGuest next) (set t.guests id parent) child (child_guest g) no_guest (each_set (IsSoundGuest next) t.guests id parent no_guest h.each kept) (record { begun = All-nil (IsChildOf next child); counted = omega arith; few = omega arith });
       waiting = All-append (IsPair next) t.waiting (pair ∷ []) h.waiting (All-cons (IsPair next) pair [] (low, ones.0.1) (All-nil (IsPair next)));
     }
 

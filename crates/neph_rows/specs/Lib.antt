@@ -1,5 +1,6 @@
-pub mod Records
+pub mod Shares
 pub mod Slots
+pub mod Records
 pub mod Live
 pub mod Sound
 pub mod Kept

@@ -1,7 +1,8 @@
 -- The value of the hypervisor's tables.
-use Rattle.std.specs.Prelude.{List, Option}
+use Rattle.std.specs.Prelude.{ℕ, List, [], map, Option}
 use Rattle.neph_model.specs.declared.life.Life.{Life}
-use Rattle.neph_model.specs.Machine.{Tables, Exposed, Shared}
+use Rattle.neph_model.specs.Machine.{Tables, Exposed, Shared, but_handles}
+use Rattle.neph_rows.specs.Slots.{first_guest}
 
 -- who is live, and the hypervisor's tables
 pub record Records : Type 0 where
@@ -11,6 +12,19 @@ pub record Records : Type 0 where
 -- the shared half of these and of some exposed pages
 abbrev pub shared_of : Records → List Exposed → Shared
 shared_of r pages = record { lives = r.lives; tables = r.tables; pages = pages }
+
+-- the records at first: who is live, and the id of the next child
+abbrev pub first_records : List (Option Life) → ℕ → Records
+first_records lives next = record {
+  lives = lives;
+  tables = record { guests = map first_guest lives; next = next; waiting = [] };
+}
+
+-- the records without the handles of the domains
+abbrev pub without_handles : Records → Records
+without_handles r = record r {
+  tables = record r.tables { guests = map but_handles r.tables.guests };
+}
 
 -- what a shared half keeps beside its exposed pages
 abbrev pub records_in : Shared → Records

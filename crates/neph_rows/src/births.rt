@@ -1,22 +1,24 @@
 // The commit of a clone, the end of a domain and the second stage.
 ghost use Rattle.std.specs.Prelude.{◌≡◌, ◌<◌, ◌≤◌, ◌∷◌, ℕ, true, All, IfOk, OnOk, OnErr, None, length, List, slice_set, slice_get, slice_index_or, option_map, Some};
+ghost use Rattle.std.specs.FinMap as fm;
 ghost use Rattle.neph_model.specs.Births.{end_domain};
 ghost use Rattle.neph_model.specs.Machine.{Exposed, guest_at, is_live, live_count, no_guest};
 ghost use Rattle.neph_model.specs.declared.life.Life.{Life};
 ghost use Rattle.neph_model.specs.Step.{locked, shared_commit, shared_join};
 ghost use Rattle.neph_rows.specs.Live.{AreLiveIds};
 ghost use Rattle.neph_rows.specs.Records.{shared_of};
-ghost use Rattle.neph_rows.specs.Slots.{guests_of, HasRoom};
+ghost use Rattle.neph_rows.specs.Slots.{guests_of, rooms_of, HasRoom};
 
 use crate::exposed_pages::ExposedPages;
 use crate::live_ids::with_id;
 use crate::registry::Registry;
+use crate::sharing::Sharing;
 use crate::slots::{Slot, clear, take_first};
 use neph_base::{DomId, NoMemory, Reply};
 use neph_model::{Cloned, Life};
 
 /// Commits the first of the clones that a live domain has begun: its child is live, and waits with
-/// its parent for the second stage. Want of memory leaves all as before.
+/// its parent for the second stage. It has its parent's grants, and no handles. Want of memory leaves all as before.
 pub fn commit<E: ExposedPages>(
     r: &mut Registry,
     pages: &mut E,
@@ -41,10 +43,11 @@ pub fn commit<E: ExposedPages>(
     let Some(child) = r.first_begun(dom) else {
         return Ok(Reply::Done);
     };
+    let sharing = child_sharing(r, dom)?;
     r.waiting.reserve(1)?;
     pages.bear(child, dom)?;
     r.waiting.push_back_reserved(Cloned { parent: dom, child });
-    commit_slots(&mut r.slots, dom, child);
+    commit_slots(&mut r.slots, dom, child, sharing);
     let life = born(r.lives[dom.get() as usize], dom);
     set_life(
         &mut r.lives,
@@ -56,8 +59,22 @@ pub fn commit<E: ExposedPages>(
     Ok(Reply::Child(child))
 }
 
-// Takes away the first of the clones that a domain has begun, and keeps nothing of its child yet.
-fn commit_slots(slots: &mut Vec<Slot>, dom: DomId, child: DomId)
+// What a child of a domain shares: its parent's grants, and no handles.
+fn child_sharing(r: &Registry, dom: DomId) -> Result<Sharing, NoMemory>
+    ensures { IfOk result (λ s. s ≡ record {
+      grants = (guest_at dom r.now.tables).grants;
+      handles = fm.empty;
+      room = true;
+    }) }
+{
+    r.slots[dom.get() as usize]
+        .sharing
+        .child(*r.slots.allocator())
+}
+
+// Takes away the first of the clones that a domain has begun, and keeps nothing of its child but
+// what it shares.
+fn commit_slots(slots: &mut Vec<Slot>, dom: DomId, child: DomId, sharing: Sharing)
     requires places { length slots.old.items ≡ 64 }
     requires room { All HasRoom slots.old.items }
     requires some { 0 < length (slice_index_or (guests_of slots.old.items) dom no_guest).begun }
@@ -65,11 +82,13 @@ fn commit_slots(slots: &mut Vec<Slot>, dom: DomId, child: DomId)
         → (slice_index_or (guests_of slots.old.items) dom no_guest).begun ≡ first ∷ left
         → guests_of slots.new.items ≡ slice_set (slice_set (guests_of slots.old.items) dom
         (record (slice_index_or (guests_of slots.old.items) dom no_guest) { begun = left })) child
-        no_guest }
+        (record no_guest { grants = sharing.grants; handles = sharing.handles }) }
+    ensures rooms { rooms_of slots.new.items
+        ≡ slice_set (rooms_of slots.old.items) child sharing.room }
     ensures room { All HasRoom slots.new.items }
 {
     take_first(slots, dom.get() as usize);
-    clear(slots, child.get() as usize);
+    clear(slots, child.get() as usize, sharing);
 }
 
 // What a child of a domain is born as, which was born so.
@@ -92,7 +111,7 @@ pub fn end<E: ExposedPages>(r: &mut Registry, pages: &mut E, dom: DomId) -> Repl
     ensures left { E.left pages.old pages.new dom }
 {
     let at = dom.get() as usize;
-    clear(&mut r.slots, at);
+    clear(&mut r.slots, at, Sharing::none());
     set_life(&mut r.lives, &mut r.live, &mut r.ids, at, None);
     pages.end(dom);
     Reply::Ended

@@ -5,10 +5,12 @@
 mod births;
 mod clone;
 mod exposed_pages;
+mod handles;
 mod lent;
 mod live_ids;
 mod memory;
 mod registry;
+mod sharing;
 mod slots;
 mod trap;
 

@@ -1,11 +1,11 @@
 // What a command does to an exposed page of its domain.
-ghost use Rattle.std.specs.Prelude.{◌≡◌, ◌<◌, ◌+◌, ◌≤◌, length, true, Some};
+ghost use Rattle.std.specs.Prelude.{◌≡◌, ◌<◌, ◌+◌, ◌≤◌, length, take, drop, true, Some};
 ghost use Rattle.neph_model.specs.Step.{call_effect, locked};
-ghost use Rattle.neph_model.specs.Trap.{is_exposed, w_call, r_call};
+ghost use Rattle.neph_model.specs.Trap.{is_exposed, exposed_bytes, w_call, r_call};
 ghost use Rattle.neph_rows.specs.Records.{Records, shared_of};
 
 use crate::exposed_pages::ExposedPages;
-use neph_base::{DomId, Mode, Piece, Refusal, Reply};
+use neph_base::{DomId, Mode, Pfn, Piece, Refusal, Reply};
 use neph_model::Mapping;
 
 /// Writes bytes to an exposed page that an address of a domain maps to.
@@ -54,9 +54,23 @@ pub fn r_call<E: ExposedPages>(pages: &mut E, dom: DomId, at: usize, len: u8, to
     ensures fits { E.fits pages.new }
     ensures stays { E.stays pages.old pages.new }
 {
+    Reply::Bytes(read(pages, dom, to.pfn, at, len))
+}
+
+/// Bytes of an exposed page of a domain, from this offset on.
+pub fn read<E: ExposedPages>(pages: &mut E, id: DomId, pfn: Pfn, at: usize, len: u8) -> Piece
+    requires fits { E.fits pages.old }
+    requires there { is_exposed (E.pages pages.old) id pfn ≡ true }
+    requires some { 0 < len }
+    requires few { len ≤ 64 }
+    requires inside { at + len ≤ 4096 }
+    ensures bytes { result ≡ take len (drop at (exposed_bytes (E.pages pages.old) id pfn)) }
+    ensures same { E.pages pages.new ≡ E.pages pages.old }
+    ensures fits { E.fits pages.new }
+    ensures stays { E.stays pages.old pages.new }
+{
     let mut buffer = [0u8; 64];
     let into = &mut buffer[..len as usize];
-    pages.read(dom, to.pfn, at, into);
-    let piece = Piece::new(into).unwrap();
-    Reply::Bytes(piece)
+    pages.read(id, pfn, at, into);
+    Piece::new(into).unwrap()
 }

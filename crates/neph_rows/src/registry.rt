@@ -1,6 +1,6 @@
 // Who is live, and what the hypervisor keeps of each id.
 use crate::live_ids::{first_from, live_ids};
-use crate::slots::{Slot, empty_slot};
+use crate::slots::{Slot, first_slot};
 use neph_base::{DomId, IDS, NoMemory};
 use neph_model::{Cloned, Life};
 use std::alloc::Global;
@@ -21,9 +21,13 @@ pub struct Registry {
 }
 
 impl Model for Registry {
+    ghost use Rattle.std.specs.Coded.{codes};
+    ghost use Rattle.neph_model.specs.contracts.life.Guest as guest;
     ghost use Rattle.neph_rows.specs.Records.{Records};
 
     ghost Value = { Records };
+
+    ghost coded = { Prim.hlevel (codes, guest.the_row.coded) };
 
     ghost use Rattle.neph_rows.specs.Kept.{records_of, IsKept};
 
@@ -38,26 +42,21 @@ impl Registry {
     ghost use Rattle.neph_model.specs.Machine.{life_at, live_count, guest_at, no_guest, program_run};
     ghost use Rattle.neph_model.specs.Step.{is_paused, awaits_join, is_some_left};
     ghost use Rattle.neph_rows.specs.Live.{IsNextLive};
-    ghost use Rattle.neph_rows.specs.Records.{shared_of};
+    ghost use Rattle.neph_rows.specs.Records.{shared_of, first_records};
     ghost use Rattle.neph_rows.specs.Sound.{IsSoundRecords};
     ghost use Rattle.neph_model.specs.Machine.{Exposed};
 
-    /// Who is live at first, and the id of the next child; no clone has begun or waits.
+    /// Who is live at first, and the id of the next child; no clone has begun or waits, and each
+    /// domain has granted its device pages to domain 0.
     pub fn new(alloc: Global, lives: Vec<Option<Life>>, next: u8) -> Result<Self, NoMemory>
-        requires { IsSoundRecords (record {
-          lives = lives.items;
-          tables = record { guests = replicate 64 no_guest; next = next; waiting = [] };
-        }) }
-        ensures { IfOk result (λ r. r ≡ record {
-          lives = lives.items;
-          tables = record { guests = replicate 64 no_guest; next = next; waiting = [] };
-        }) }
+        requires { IsSoundRecords (first_records lives.items next) }
+        ensures { IfOk result (λ r. r ≡ first_records lives.items next) }
     {
         let ids = live_ids(&lives);
         let live = lives.iter().filter(|life| life.is_some()).count();
         let mut slots = Vec::with_capacity(alloc, IDS)?;
-        for _ in 0..IDS {
-            slots.push(empty_slot(alloc)?)?;
+        for life in &lives {
+            slots.push(first_slot(alloc, life)?)?;
         }
         Ok(Registry {
             lives,

@@ -9,12 +9,12 @@ use Rattle.neph_model.specs.declared.life.Life.{Life}
 use Rattle.neph_model.specs.declared.life.Guest.{Guest}
 use Rattle.neph_model.specs.declared.book.Book.{Book}
 use Rattle.neph_model.specs.declared.book.Stage.TheVariants.{Ready}
-use Rattle.neph_model.specs.Machine.{no_own, no_guest, guest_at, exposed_at}
+use Rattle.neph_model.specs.Machine.{no_own, no_guest, guest_at, exposed_at, but_handles}
 use Rattle.neph_model.specs.Births.{commit, parent_own, child_own, child_guest, child_exposed}
 use Rattle.neph_model.specs.Step.{Outcome, shared_commit, child_made, bear}
 use Rattle.neph_model.specs.Books.{State, no_book, book_of, child_colours, new_count}
 use Rattle.neph_model.specs.Turns.{Done, noting, books_committed, commit_turn}
-use Rattle.neph_runs.specs.Orderly.{Seat, outline, but_handles, seat, HasPlaces}
+use Rattle.neph_runs.specs.Orderly.{Seat, outline, seat, HasPlaces}
 use Rattle.neph_runs.proofs.Sound.{child_outline}
 use Rattle.neph_runs.proofs.Seats.{same_seat}
 

@@ -25,13 +25,13 @@ use Rattle.neph_model.specs.declared.book.Spends.TheVariants.{Nothing, Leaf, Cop
 use Rattle.neph_model.specs.declared.told.Told.{Told}
 use Rattle.neph_model.specs.WellFormed.{IsWellFormed, IsWellFormedProgram}
 use Rattle.neph_model.specs.Programs.{commands_of, program_at}
-use Rattle.neph_model.specs.Machine.{no_own, no_guest, own_at, exposed_at, program_of, guest_at}
+use Rattle.neph_model.specs.Machine.{no_own, no_guest, own_at, exposed_at, program_of, guest_at, but_handles}
 use Rattle.neph_model.specs.Births.{end_domain}
 use Rattle.neph_model.specs.Trap.{begin_clone}
 use Rattle.neph_model.specs.Step.{Outcome, step}
 use Rattle.neph_model.specs.Books.{State, put_book, book_spent, fresh_spent, goes_shared, shared_count}
 use Rattle.neph_model.specs.Turns.{Done, nothing, quietly, book_after, books_after, line_turn}
-use Rattle.neph_runs.specs.Orderly.{Seat, seat, ForksWell, IsOrderlyAt, IsOrderly, outline, but_handles}
+use Rattle.neph_runs.specs.Orderly.{Seat, seat, ForksWell, IsOrderlyAt, IsOrderly, outline}
 use Rattle.neph_runs.proofs.Sums.{same_or, ids_one}
 use Rattle.neph_runs.proofs.Lines.{GoesOn, Goes, Ends, Begins, line_kind}
 use Rattle.neph_runs.specs.Work.{lines_left, spare_left, stage_work, size_by, work_at, work_left}

@@ -24,13 +24,13 @@ use Rattle.neph_model.specs.declared.book.Spends.{Spends}
 use Rattle.neph_model.specs.declared.book.Spends.TheVariants.{Nothing}
 use Rattle.neph_model.specs.declared.told.Told.{Told}
 use Rattle.neph_model.specs.WellFormed.{IsWellFormed}
-use Rattle.neph_model.specs.Machine.{no_own, no_guest, own_at, exposed_at, is_live, guest_at}
+use Rattle.neph_model.specs.Machine.{no_own, no_guest, own_at, exposed_at, is_live, guest_at, but_handles}
 use Rattle.neph_model.specs.Trap.{is_blocked, begin_clone}
 use Rattle.neph_model.specs.Births.{end_domain}
 use Rattle.neph_model.specs.Step.{Outcome, step, is_paused}
 use Rattle.neph_model.specs.Books.{State, free, no_book, put_book, book_spent, fresh_spent, pages_of, shared_count}
 use Rattle.neph_model.specs.Turns.{nothing, quietly, stage_stepped, book_after, next_command, next_move, line_turn, move_turn, domain_turn, turn}
-use Rattle.neph_runs.specs.Orderly.{Seat, seat, outline, but_handles}
+use Rattle.neph_runs.specs.Orderly.{Seat, seat, outline}
 use Rattle.neph_runs.proofs.Lines.{Goes, Ends, Begins, line_kind, goes_no_exit, begins_clone}
 use Rattle.neph_runs.proofs.Seats.{book_turns, goes_turns, ends_turns, begins_turns}
 use Rattle.neph_runs.proofs.Births.{child_seat, commit_born, bears}

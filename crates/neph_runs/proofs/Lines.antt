@@ -26,7 +26,7 @@ use Rattle.neph_model.specs.declared.told.Told.{Told}
 use Rattle.neph_model.specs.declared.told.Told.TheVariants.{Enough, Short, Free}
 use Rattle.neph_model.specs.Memory.{page_with_bytes}
 use Rattle.neph_model.specs.Programs.{commands_of, labels_of, program_at, command_in, command_at, label_line}
-use Rattle.neph_model.specs.Machine.{Tables, Shared, Machine, own_at, life_at, guest_at, exposed_at, program_run, no_own, no_guest, put_own, put_guest}
+use Rattle.neph_model.specs.Machine.{Tables, Shared, Machine, own_at, life_at, guest_at, exposed_at, program_run, no_own, no_guest, put_own, put_guest, but_handles}
 use Rattle.neph_model.specs.Own.{LocalResult, page_of, mapping_at, with_alone, with_bytes, with_mapping, with_leaf, is_bad_pfn, has_leaf, w_step, r_step, leaf_step, map_step, unmap_step, settle, jump_step, local_step}
 use Rattle.neph_model.specs.Lent.{Lent, lent, own_given, own_replied, own_behind, with_page_back}
 use Rattle.neph_model.specs.Trap.{Accepted, CallResult, answers, is_exposed, exposed_bytes, with_exposed_bytes, w_call, r_call, trap, with_handles, free_told, need, lacks_frames, clone_refusal, begin_clone, clone_call}
@@ -35,7 +35,7 @@ use Rattle.neph_model.specs.Births.{end_domain}
 use Rattle.neph_model.specs.Step.{Outcome, call_effect, shared_line, step}
 use Rattle.neph_model.specs.WellFormed.{JumpsAhead, IsWellFormedProgram, IsWellFormed}
 use Rattle.neph_laws.proofs.HandleRows.{IsOfHandles, handle_row, put_as}
-use Rattle.neph_runs.specs.Orderly.{outline, but_handles}
+use Rattle.neph_runs.specs.Orderly.{outline}
 use Rattle.neph_runs.proofs.Steps.{written_outline}
 
 -- a reply behind which a domain goes on to another line

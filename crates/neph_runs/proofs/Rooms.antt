@@ -21,13 +21,13 @@ use Rattle.neph_model.specs.declared.told.Told.{Told}
 use Rattle.neph_model.specs.declared.told.Told.TheVariants.{Enough, Short, Free}
 use Rattle.neph_model.specs.WellFormed.{IsWellFormed}
 use Rattle.neph_model.specs.Programs.{command_at}
-use Rattle.neph_model.specs.Machine.{no_own, no_guest, own_at, exposed_at, program_of, size_of, guest_at}
+use Rattle.neph_model.specs.Machine.{no_own, no_guest, own_at, exposed_at, program_of, size_of, guest_at, but_handles}
 use Rattle.neph_model.specs.Trap.{lacks_frames, begin_clone}
 use Rattle.neph_model.specs.Births.{end_domain}
 use Rattle.neph_model.specs.Step.{Outcome, step}
 use Rattle.neph_model.specs.Books.{Books, State, free, no_book, put_book, book_spent, fresh_spent, shared_count}
 use Rattle.neph_model.specs.Turns.{quietly, book_after, line_turn}
-use Rattle.neph_runs.specs.Orderly.{Seat, seat, IsOrderly, outline, but_handles}
+use Rattle.neph_runs.specs.Orderly.{Seat, seat, IsOrderly, outline}
 use Rattle.neph_runs.proofs.Sums.{same_or}
 use Rattle.neph_runs.proofs.Lines.{Goes, Ends, Begins, line_kind, goes_no_exit, begins_clone}
 use Rattle.neph_runs.proofs.Seats.{OneChanged, book_turns, goes_turns, ends_turns, begins_turns}

@@ -6,11 +6,11 @@ use Rattle.neph_model.specs.declared.own.Own.{Own}
 use Rattle.neph_model.specs.declared.life.Life.{Life}
 use Rattle.neph_model.specs.declared.life.Guest.{Guest}
 use Rattle.neph_model.specs.declared.book.Book.{Book}
-use Rattle.neph_model.specs.Machine.{no_own, no_guest, own_at, life_at, guest_at, exposed_at}
+use Rattle.neph_model.specs.Machine.{no_own, no_guest, own_at, life_at, guest_at, exposed_at, but_handles}
 use Rattle.neph_model.specs.Births.{end_domain}
 use Rattle.neph_model.specs.Step.{Outcome}
 use Rattle.neph_model.specs.Books.{State, no_book, put_book}
-use Rattle.neph_runs.specs.Orderly.{Seat, Outline, outline, but_handles, seat, HasPlaces}
+use Rattle.neph_runs.specs.Orderly.{Seat, Outline, outline, seat, HasPlaces}
 use Rattle.neph_runs.proofs.Lines.{Goes}
 
 pub same_seat : (x y : Seat) → x.own ≡ y.own → x.life ≡ y.life → x.guest ≡ y.guest → x.exposed ≡ y.exposed → x.book ≡ y.book → x ≡ y

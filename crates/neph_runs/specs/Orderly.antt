@@ -7,7 +7,7 @@ use Rattle.neph_model.specs.declared.life.Guest.{Guest}
 use Rattle.neph_model.specs.declared.book.Book.{Book}
 use Rattle.neph_model.specs.declared.book.Stage.{Stage}
 use Rattle.neph_model.specs.declared.book.Stage.TheVariants.{Ready, Copying, Forking}
-use Rattle.neph_model.specs.Machine.{Exposed, own_at, life_at, guest_at, exposed_at}
+use Rattle.neph_model.specs.Machine.{Exposed, but_handles, own_at, life_at, guest_at, exposed_at}
 use Rattle.neph_model.specs.Books.{State, book_at}
 
 -- which pages of a domain are exposed, and how many
@@ -17,10 +17,6 @@ pub record Outline : Type 0 where
 
 abbrev pub outline : Exposed → Outline
 outline e = record { has = λ pfn. is_some (fm.get e pfn); count = fm.len e }
-
--- what is kept of a domain, but for its handles
-abbrev pub but_handles : Guest → Guest
-but_handles g = record g { handles = fm.empty }
 
 -- what is kept of an id, but for its handles and the bytes of its exposed pages
 pub record Seat : Type 0 where

@@ -3,7 +3,7 @@ use Rattle.neph_model.specs.declared.life.Guest.{Guest}
 use Rattle.neph_model.specs.Machine.{no_guest, guest_at}
 use Rattle.neph_model.specs.Trap.{begin_clone}
 use Rattle.neph_rows.specs.Kept.{records_of}
-use Rattle.neph_rows.specs.Slots.{guests_of}
+use Rattle.neph_rows.specs.Slots.{guests_of, HaveRooms}
 use Rattle.neph_rows.specs.Sound.{MayBegin, IsSoundRecords}
 use Rattle.neph_rows.specs.Records.{Records}
 use Rattle.neph_rows.proofs.Sound.{sound_begin}
@@ -27,7 +27,7 @@ pub invariant_of-r : goal.invariant_of-r
 invariant_of-r c =
     let r = records_of c.r.inside in
     let may = subst (λ (x : Records). MayBegin x c.args.dom) (sym c.r.view_is) c.requires in
-    record { sound = subst IsSoundRecords (sym (tables c)) (sound_begin r c.args.dom c.r.invariant.sound may); room = c.count_clone.ensures.room; live = c.r.invariant.live; ids = c.r.invariant.ids }
+    record { sound = subst IsSoundRecords (sym (tables c)) (sound_begin r c.args.dom c.r.invariant.sound may); room = c.count_clone.ensures.room; homes = subst (HaveRooms c.r.inside.lives.items) (sym c.count_clone.ensures.rooms) c.r.invariant.homes; live = c.r.invariant.live; ids = c.r.invariant.ids }
 
 pub returns-clause-row : goal.returns-clause-row
 returns-clause-row c = λ pages l told none.
