@@ -21,12 +21,14 @@ use Rattle.neph_model.specs.declared.life.Guest.{Guest}
 use Rattle.neph_model.specs.declared.life.Cloned.{Cloned}
 use Rattle.neph_model.specs.declared.own.Own.{Own}
 use Rattle.neph_model.specs.declared.told.Told.{Told}
+use Rattle.neph_grant.specs.Handles.{Mappings}
+use Rattle.neph_laws.proofs.HandleRows.{IsOfHandles, handle_row}
 use Rattle.neph_model.specs.Machine.{Machine, Shared, Tables, Exposed, own_at, no_own, no_guest, guest_at, life_at, is_live, exposed_at, program_run}
 use Rattle.neph_model.specs.Programs.{command_at, labels_of, program_at}
 use Rattle.neph_model.specs.Own.{local_step, page_of, with_alone, mapping_at}
 use Rattle.neph_model.specs.Lent.{Lent, PageBack, lent, own_given, own_replied, own_behind, with_page_back}
 use Rattle.neph_model.specs.Trap as trap
-use Rattle.neph_model.specs.Births.{child_own, parent_own, commit, join, child_exposed}
+use Rattle.neph_model.specs.Births.{child_own, parent_own, commit, join, child_exposed, child_guest}
 use Rattle.neph_model.specs.Memory.{page_with_identity}
 use Rattle.neph_model.specs.Laws.{IsApart, StaysApart}
 use Rattle.neph_model.specs.Step.{Outcome, Locked, locked, step_by, locked_step, call_effect, shared_line, shared_commit, shared_join, step, actor, child_made, is_due, is_paused, is_some_left, bear}
@@ -131,6 +133,10 @@ behind_sound o (command.JChild label) r back other h lt = called_sound o (comman
 behind_sound o (command.JFail label) r back other h lt = called_sound o (command.JFail label) r back h lt
 behind_sound o command.Free r back other h lt = called_sound o command.Free r back h lt
 behind_sound o command.Clone r back other h lt = called_sound o command.Clone r back h lt
+behind_sound o (command.Gmap granter n) r back other h lt = called_sound o (command.Gmap granter n) r back h lt
+behind_sound o (command.Gunmap k) r back other h lt = called_sound o (command.Gunmap k) r back h lt
+behind_sound o (command.Hr k at n) r back other h lt = called_sound o (command.Hr k at n) r back h lt
+behind_sound o (command.Hw k at bytes) r back other h lt = called_sound o (command.Hw k at bytes) r back h lt
 
 -- what a call leaves of the tables: what is kept of its domain alone is changed, by the clones that it begins
 record Called (sh : Shared) (id : ℕ) (did : trap.CallResult) : Type 0 where
@@ -166,6 +172,16 @@ called_clone sh id None low =
       lives = refl;
     }
 
+called_handles : (sh : Shared) (id : ℕ) (l : Lent) (told : Told) (c : Command) → id < length sh.tables.guests → IsOfHandles c → Called sh id (trap.trap sh id (guest_at id sh.tables) l told c)
+called_handles sh id l told c low is =
+    let g = guest_at id sh.tables in
+    let handles : (hs : Mappings) (r : Reply) → begins r ≡ 0 → Called sh id (trap.answers (trap.with_handles sh id g hs) r) = λ hs r none.
+    let new : Guest = record g { handles = hs } in
+    let here : get_or (set sh.tables.guests id new) id no_guest ≡ new = get_or-set_same sh.tables.guests id new no_guest low in
+    record { tables = λ j far. far_set sh.tables.guests id new no_guest j far; begun = omega (arith, ap (λ (x : Guest). length x.begun) here); pages = refl; lives = refl } in
+    handle_row sh id g (Called sh id) (λ why plain. quiet sh id (Err why) refl refl refl) (λ bytes. quiet sh id (trap.answers sh (reply.Bytes bytes)) refl refl refl) (λ hs h. handles hs (reply.Number h) refl) (λ hs. handles hs reply.Done refl)
+    (λ granter pfn at bytes there. quiet sh id (Ok _) refl (length-set sh.pages granter _) refl) l told c is
+
 called : (sh : Shared) (id : ℕ) (l : Lent) (told : Told) (c : Command) → id < length sh.tables.guests → Called sh id (trap.trap sh id (guest_at id sh.tables) l told c)
 called sh id l told (command.W addr bytes) low = called_met sh id _ bytes l.met
 called sh id l told (command.R addr len) low = quiet sh id (trap.trap sh id (guest_at id sh.tables) l told (command.R addr len)) refl refl refl
@@ -177,6 +193,10 @@ called sh id l told (command.JFail label) low = quiet sh id (Err _) refl refl re
 called sh id l told command.Exit low = quiet sh id (Err _) refl refl refl
 called sh id l told command.Free low = quiet sh id (trap.trap sh id (guest_at id sh.tables) l told command.Free) refl refl refl
 called sh id l told command.Clone low = called_clone sh id _ low
+called sh id l told (command.Gmap granter n) low = called_handles sh id l told (command.Gmap granter n) low tt
+called sh id l told (command.Gunmap k) low = called_handles sh id l told (command.Gunmap k) low tt
+called sh id l told (command.Hr k at n) low = called_handles sh id l told (command.Hr k at n) low tt
+called sh id l told (command.Hw k at bytes) low = called_handles sh id l told (command.Hw k at bytes) low tt
 
 may_split : (a b c d : Bool) → ((a && (not (b || c) && true)) && d) ≡ true → (a ≡ true) × (b ≡ false) × (d ≡ true)
 may_split true false false true e = (refl, refl, refl)
@@ -278,6 +298,14 @@ line_kept s m id line l told (command.JFail label) h at short low lives guests =
     call_kept s m id (command.JFail label) _ h at.live at.idle (short (λ e. absurd (cc))) (λ e. absurd (cc)) (omega (arith, h.places, low)) (called m.shared id l told (command.JFail label) (omega (arith, guests, low)))
 line_kept s m id line l told command.Free h at short low lives guests =
     call_kept s m id command.Free _ h at.live at.idle (short (λ e. absurd (cc))) (λ e. absurd (cc)) (omega (arith, h.places, low)) (called m.shared id l told command.Free (omega (arith, guests, low)))
+line_kept s m id line l told (command.Gmap granter n) h at short low lives guests =
+    call_kept s m id (command.Gmap granter n) _ h at.live at.idle (short (λ e. absurd (cc))) (λ e. absurd (cc)) (omega (arith, h.places, low)) (called m.shared id l told (command.Gmap granter n) (omega (arith, guests, low)))
+line_kept s m id line l told (command.Gunmap k) h at short low lives guests =
+    call_kept s m id (command.Gunmap k) _ h at.live at.idle (short (λ e. absurd (cc))) (λ e. absurd (cc)) (omega (arith, h.places, low)) (called m.shared id l told (command.Gunmap k) (omega (arith, guests, low)))
+line_kept s m id line l told (command.Hr k at' n) h at short low lives guests =
+    call_kept s m id (command.Hr k at' n) _ h at.live at.idle (short (λ e. absurd (cc))) (λ e. absurd (cc)) (omega (arith, h.places, low)) (called m.shared id l told (command.Hr k at' n) (omega (arith, guests, low)))
+line_kept s m id line l told (command.Hw k at' bytes) h at short low lives guests =
+    call_kept s m id (command.Hw k at' bytes) _ h at.live at.idle (short (λ e. absurd (cc))) (λ e. absurd (cc)) (omega (arith, h.places, low)) (called m.shared id l told (command.Hw k at' bytes) (omega (arith, guests, low)))
 line_kept s m id line l told command.Clone h at short low lives guests =
     call_kept s m id command.Clone _ h at.live at.idle (short (λ e. absurd (cc))) (λ e. absurd (cc)) (omega (arith, h.places, low)) (called m.shared id l told command.Clone (omega (arith, guests, low)))
 
@@ -330,14 +358,15 @@ sound_commit stays s m id line child left told h live begun after low lives gues
     let lives2 : List (Option Life) = set m.shared.lives child born in
     let own1 = set m.own child kid in
     let own2 = set own1 id par in
-    let g1 : List Guest = set m.shared.tables.guests child no_guest in
+    let kid_guest : Guest = child_guest g in
+    let g1 : List Guest = set m.shared.tables.guests child kid_guest in
     let g2 : List Guest = set g1 id left_guest in
     let apart_ids : id ≢ child = λ e. absurd (omega (arith, e, after)) in
     let there1 : own_at child own1 ≡ kid = get_or-set_same m.own child kid no_own (omega (arith, h.places, low)) in
-    let kept1 : get_or g1 child no_guest ≡ no_guest = get_or-set_same m.shared.tables.guests child no_guest no_guest (omega (arith, guests, low)) in
+    let kept1 : get_or g1 child no_guest ≡ kid_guest = get_or-set_same m.shared.tables.guests child kid_guest no_guest (omega (arith, guests, low)) in
     let there2 : own_at id own2 ≡ par = get_or-set_same own1 id par no_own (omega (arith, h.places, low, after, length-set m.own child kid)) in
-    let kept2 : get_or g2 id no_guest ≡ left_guest = get_or-set_same g1 id left_guest no_guest (omega (arith, guests, low, after, length-set m.shared.tables.guests child no_guest)) in
-    let one : Each lives2 own1 g1 = each_put m.shared.lives lives2 m.own own1 m.shared.tables.guests g1 child h.each (far_set m.shared.lives child born None) (far_set m.own child kid no_own) (far_set m.shared.tables.guests child no_guest no_guest)
+    let kept2 : get_or g2 id no_guest ≡ left_guest = get_or-set_same g1 id left_guest no_guest (omega (arith, guests, low, after, length-set m.shared.tables.guests child kid_guest)) in
+    let one : Each lives2 own1 g1 = each_put m.shared.lives lives2 m.own own1 m.shared.tables.guests g1 child h.each (far_set m.shared.lives child born None) (far_set m.own child kid no_own) (far_set m.shared.tables.guests child kid_guest no_guest)
     (λ still. rw (there1, kept1) (record { own = kid_sound; commits = omega (arith, room) })) in
     let two : Each lives2 own2 g2 = each_put lives2 lives2 own1 own2 g1 g2 id one (λ j far. refl) (far_set own1 id par no_own) (far_set g1 id left_guest no_guest)
     (λ still. rw (there2, kept2) (record { own = par_sound; commits = room })) in
@@ -346,7 +375,7 @@ sound_commit stays s m id line child left told h live begun after low lives gues
       places = length-set own1 id par ∙ length-set m.own child kid ∙ h.places;
       exposed = length-set m.shared.pages child (child_exposed (exposed_at id m.shared.pages)) ∙ h.exposed;
       apart = apart_kept stays s m (record { own = own2; shared = commit m.shared id child left }) (Commit id line) told (reply.Child child) h goes (omega (arith, after, low)) (low, λ e. apart_ids (sym e));
-      each = subst (λ (gs : List Guest). Each lives2 own2 gs) (sym (set_comm m.shared.tables.guests id child left_guest no_guest apart_ids)) two;
+      each = subst (λ (gs : List Guest). Each lives2 own2 gs) (sym (set_comm m.shared.tables.guests id child left_guest kid_guest apart_ids)) two;
     }
 
 -- the second stage of the oldest clone

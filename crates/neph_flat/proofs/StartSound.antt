@@ -18,8 +18,11 @@ use Rattle.neph_model.specs.declared.life.Guest.{Guest}
 use Rattle.neph_model.specs.Memory.{zero_page}
 use Rattle.neph_model.specs.Machine.{Exposed, no_own, no_guest, own_at, is_live, guest_at, exposed_at}
 use Rattle.neph_model.specs.Own.{page_of}
-use Rattle.neph_model.specs.Start.{started_512s, start_mode, start_vmap, start_pages, start_exposed, start_own, start_life, of_starts, places, start_machine}
+use Rattle.neph_model.specs.Start.{started_512s, start_mode, start_vmap, start_pages, start_exposed, start_own, start_life, start_guest, of_starts, places, start_machine}
 use Rattle.neph_model.specs.WellFormed.{IsWellFormed, IsWellFormedStart}
+use Rattle.std.specs.Prelude.{map as map_list}
+use Rattle.neph_rows.specs.Records.{Records, first_records, records_in}
+use Rattle.neph_rows.specs.Slots.{first_guest}
 use Rattle.neph_rows.specs.Sound.{IsSoundRecords, IsSoundGuest, IsSoundLife, IsChildOf, IsPair}
 use Rattle.neph_flat.specs.Pages.{HasFew, IsPlaced}
 use Rattle.neph_flat.specs.Sound.{IsSoundOwn, IsSound}
@@ -99,19 +102,34 @@ length_places none f ts few =
     let k = 63 - length ts in
     omega (arith, few, length-append (of_starts f 1 ts) (replicate k none), length_starts f 1 ts, length-replicate k none)
 
+none_guests : (k : ℕ) → map_list first_guest (replicate k None) ≡ replicate k no_guest
+none_guests zero = refl
+none_guests (suc k) = ap (λ gs. no_guest ∷ gs) (none_guests k)
+
+some_guests : (n k : ℕ) (ts : List Start) → map_list first_guest (of_starts (λ n t. Some (start_life n t)) n ts ++ replicate k None) ≡ of_starts (λ n t. start_guest) n ts ++ replicate k no_guest
+some_guests n k [] = none_guests k
+some_guests n k (t ∷ ts) = ap (λ gs. start_guest ∷ gs) (some_guests (n + 1) k ts)
+
+-- the records at first are those of the start
+pub start_is : (s : Script) (lives : List (Option Life)) (starts : List Start) → starts ≡ s.starts → lives ≡ places None (λ n t. Some (start_life n t)) starts → first_records lives (1 + length starts) ≡ records_in (start_machine s).shared
+start_is s lives starts same is =
+    let with = λ (gs : List Guest). let r : Records = record { lives = places None (λ n t. Some (start_life n t)) s.starts; tables = record { guests = gs; next = 1 + length s.starts; waiting = [] } } in r in
+    ap (λ (ls : List (Option Life)). first_records ls (1 + length starts)) is ∙ ap (λ (ts : List Start). first_records (places None (λ n t. Some (start_life n t)) ts) (1 + length ts)) same
+    ∙ ap (λ gs. with (no_guest ∷ gs)) (some_guests 1 (63 - length s.starts) s.starts)
+
 -- the hypervisor's tables at the start
-pub start_records : (s : Script) → IsWellFormed s → IsSoundRecords (record { lives = places None (λ n t. Some (start_life n t)) s.starts; tables = record { guests = replicate 64 no_guest; next = 1 + length s.starts; waiting = [] } })
+pub start_records : (s : Script) → IsWellFormed s → IsSoundRecords (records_in (start_machine s).shared)
 start_records s h =
     let next = 1 + length s.starts in
     let P = IsWellFormedStart (length s.programs) in
     record {
       places = length_places None (λ n t. Some (start_life n t)) s.starts (omega (arith, h.few));
-      guests = length-replicate 64 no_guest;
+      guests = length_places no_guest (λ n t. start_guest) s.starts (omega (arith, h.few));
       next_low = omega arith;
       next_high = omega (arith, h.few);
       first = refl;
       lives = each_place (λ id o. IfSome o (IsSoundLife next id)) P None (λ n t. Some (start_life n t)) s.starts h.starts (λ id. tt) (λ id p k. record { drawn = k.low; limit = k.holds.limit });
-      each = λ id. subst (IsSoundGuest next id) (sym (repeated 64 id no_guest)) (record { begun = All-nil (IsChildOf next id); counted = omega arith; few = omega arith });
+      each = each_place (IsSoundGuest next) P no_guest (λ n t. start_guest) s.starts h.starts (λ id. record { begun = All-nil (IsChildOf next id); counted = omega arith; few = omega arith }) (λ id p k. record { begun = All-nil (IsChildOf next id); counted = omega arith; few = omega arith });
       waiting = All-nil (IsPair next);
     }
 
@@ -224,6 +242,7 @@ sound_start s h =
       apart = λ id pfn lt. apart_start s h id pfn lt;
       each = λ id live.
           let own = live_start s h id live in
-          let g : guest_at id (start_machine s).shared.tables ≡ no_guest = repeated 64 id no_guest in
-          record { own = own; commits = omega (arith, own.line, ap (λ (x : Guest). length x.begun) g) };
+          let g : length (guest_at id (start_machine s).shared.tables).begun ≡ 0 =
+          each_place (λ id (x : Guest). length x.begun ≡ 0) (IsWellFormedStart (length s.programs)) no_guest (λ n t. start_guest) s.starts h.starts (λ i. refl) (λ i p k. refl) id in
+          record { own = own; commits = omega (arith, own.line, g) };
     }

@@ -167,6 +167,7 @@ impl Halves {
         requires asked { MayBeAsked self.old.pages dom
             (lent (own_at dom self.old.own.items) command.now).met command.now }
         requires fits { FitsPage command.now }
+        requires live { is_live dom self.old.registry.lives ≡ true }
         requires sound { IsSoundOwn (own_at dom self.old.own.items) }
         ensures row { shared_line (seen self.old).shared dom
             (lent (own_at dom self.old.own.items) command.now) told command.now

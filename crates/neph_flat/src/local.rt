@@ -61,7 +61,13 @@ pub fn local(
             let taken = o.refused;
             Ok(Some(jump(o, line, taken)))
         }
-        Command::Exit | Command::Free | Command::Clone => Ok(None),
+        Command::Exit
+        | Command::Free
+        | Command::Clone
+        | Command::Gmap { .. }
+        | Command::Gunmap { .. }
+        | Command::Hr { .. }
+        | Command::Hw { .. } => Ok(None),
     }
 }
 

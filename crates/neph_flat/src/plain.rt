@@ -32,6 +32,7 @@ impl Model for Plain {
     ghost use Rattle.neph_flat.specs.Flat.{Flat};
     ghost use Rattle.neph_flat.specs.Halves.{seen};
     ghost use Rattle.neph_flat.specs.Sound.{IsSound};
+    ghost use Rattle.neph_model.specs.contracts.life.Guest as guest;
     ghost use Rattle.neph_model.specs.contracts.own.Own as own;
     ghost use Rattle.std.specs.Coded.{codes, coded_ℕ, coded_list};
     ghost use Rattle.std.specs.FinMap as map;
@@ -40,7 +41,7 @@ impl Model for Plain {
     ghost Value = { Flat };
 
     ghost coded = { let pages = map.code {R = nat_cmp} coded_ℕ (coded_list coded_ℕ) in
-        Prim.hlevel (codes, own.the_row.coded, pages) };
+        Prim.hlevel (codes, own.the_row.coded, guest.the_row.coded, pages) };
 
     ghost view = { λ a. record { script = a.script; machine = seen a.halves } };
 
