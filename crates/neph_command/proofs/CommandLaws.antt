@@ -69,6 +69,10 @@ made verb.JFail (op.Label a ∷ []) e = record { said = said.JFail a; is = refl;
 made verb.Exit [] e = record { said = said.Whole command.Exit; is = refl; parts_are = refl }
 made verb.Free [] e = record { said = said.Whole command.Free; is = refl; parts_are = refl }
 made verb.Clone [] e = record { said = said.Whole command.Clone; is = refl; parts_are = refl }
+made verb.Gmap (op.Dom a ∷ op.Ref b ∷ []) e = record { said = said.Whole (command.Gmap a b); is = refl; parts_are = refl }
+made verb.Gunmap (op.Handle a ∷ []) e = record { said = said.Whole (command.Gunmap a); is = refl; parts_are = refl }
+made verb.Hr (op.Handle a ∷ op.Offset b ∷ op.Len c ∷ []) e = record { said = said.Whole (command.Hr a b c); is = refl; parts_are = refl }
+made verb.Hw (op.Handle a ∷ op.Offset b ∷ op.Bytes c ∷ []) e = record { said = said.Whole (command.Hw a b c); is = refl; parts_are = refl }
 made _ _ e = absurd cc
 
 -- words that are read one by one, and then as two together
@@ -82,6 +86,10 @@ alone_then_extra v words = ap (λ (o : Result Said Why). cond (is_unbuilt v (len
 -- a command of words that are right alone and together
 pub alone_right : (v : Verb) (words : List (List ℕ)) (s : Said) → is_unbuilt v (length words) ≡ false → said_alone v words ≡ Ok s → extra_said s ≡ None → command_said v words ≡ Ok s
 alone_right v words s u a b = alone_then_extra v words ∙ rw (u, a, b) refl
+
+-- and of words that are right alone and wrong together
+pub alone_wrong : (v : Verb) (words : List (List ℕ)) (s : Said) (w : Why) → is_unbuilt v (length words) ≡ false → said_alone v words ≡ Ok s → extra_said s ≡ Some w → command_said v words ≡ Err w
+alone_wrong v words s w u a b = alone_then_extra v words ∙ rw (u, a, b) refl
 
 same_number : (a b : ℕ) → (a == b) ≡ true → a ≡ b
 same_number a b e = grind (arith, nat_tests)

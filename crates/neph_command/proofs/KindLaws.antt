@@ -33,6 +33,10 @@ operand_told kind.bytes word x e = told kind.bytes word op.Bytes (piece word) x 
 operand_told kind.vpn word x e = number_told kind.vpn 0 262143 op.Vpn word x (λ n. refl) (λ n a b. b) e
 operand_told kind.pfn word x e = number_told kind.pfn 0 1023 op.Pfn word x (λ n. refl) (λ n a b. b) e
 operand_told kind.mode word x e = told kind.mode word op.Mode (mode word) x e (λ m h. record { is = mode_read word m h; fits = tt })
+operand_told kind.dom word x e = number_told kind.dom 0 63 op.Dom word x (λ n. refl) (λ n a b. b) e
+operand_told kind.reference word x e = number_told kind.reference 0 63 op.Ref word x (λ n. refl) (λ n a b. b) e
+operand_told kind.handle word x e = number_told kind.handle 0 63 op.Handle word x (λ n. refl) (λ n a b. b) e
+operand_told kind.offset word x e = number_told kind.offset 0 4095 op.Offset word x (λ n. refl) (λ n a b. b) e
 operand_told kind.label word x e = told kind.label word op.Label (name word) x e (λ l h. let s = name_read word l h in record { is = s.0; fits = s.1 })
 
 numbered : (to : ℕ → Operand) (low high n : ℕ) → low ≤ n → n ≤ high → high < 2 ^ 64 → as_operand to (number low high (decimal n)) ≡ Ok (to n)
@@ -46,6 +50,10 @@ operand_again kind.bytes (op.Bytes bytes) h = ap (as_operand op.Bytes) (piece_ag
 operand_again kind.vpn (op.Vpn n) h = numbered op.Vpn 0 262143 n (omega arith) h (omega arith)
 operand_again kind.pfn (op.Pfn n) h = numbered op.Pfn 0 1023 n (omega arith) h (omega arith)
 operand_again kind.mode (op.Mode m) h = ap (as_operand op.Mode) (mode_again m)
+operand_again kind.dom (op.Dom n) h = numbered op.Dom 0 63 n (omega arith) h (omega arith)
+operand_again kind.reference (op.Ref n) h = numbered op.Ref 0 63 n (omega arith) h (omega arith)
+operand_again kind.handle (op.Handle n) h = numbered op.Handle 0 63 n (omega arith) h (omega arith)
+operand_again kind.offset (op.Offset n) h = numbered op.Offset 0 4095 n (omega arith) h (omega arith)
 operand_again kind.label (op.Label l) h = ap (as_operand op.Label) (name_again l h)
 operand_again _ _ h = absurd h
 
@@ -58,6 +66,10 @@ of_kind kind.vpn (op.Vpn n) = true
 of_kind kind.pfn (op.Pfn n) = true
 of_kind kind.mode (op.Mode m) = true
 of_kind kind.label (op.Label l) = true
+of_kind kind.dom (op.Dom n) = true
+of_kind kind.reference (op.Ref n) = true
+of_kind kind.handle (op.Handle n) = true
+of_kind kind.offset (op.Offset n) = true
 of_kind _ _ = false
 
 abbrev pub have_kinds : List Kind → List Operand → Bool
@@ -74,6 +86,10 @@ kind_fits kind.vpn (op.Vpn n) h = refl
 kind_fits kind.pfn (op.Pfn n) h = refl
 kind_fits kind.mode (op.Mode m) h = refl
 kind_fits kind.label (op.Label l) h = refl
+kind_fits kind.dom (op.Dom n) h = refl
+kind_fits kind.reference (op.Ref n) h = refl
+kind_fits kind.handle (op.Handle n) h = refl
+kind_fits kind.offset (op.Offset n) h = refl
 kind_fits _ _ h = absurd h
 
 pub kinds_fit : (ks : List Kind) (xs : List Operand) → FitAll ks xs → have_kinds ks xs ≡ true

@@ -37,6 +37,10 @@ operand_whole kind.pfn (op.Pfn n) h = number_whole n (omega (arith, h))
 operand_whole kind.mode (op.Mode Ro) h = refl
 operand_whole kind.mode (op.Mode Rw) h = refl
 operand_whole kind.label (op.Label l) h = name_whole l h
+operand_whole kind.dom (op.Dom n) h = number_whole n (omega (arith, h))
+operand_whole kind.reference (op.Ref n) h = number_whole n (omega (arith, h))
+operand_whole kind.handle (op.Handle n) h = number_whole n (omega (arith, h))
+operand_whole kind.offset (op.Offset n) h = number_whole n (omega (arith, h))
 operand_whole _ _ h = absurd h
 
 abbrev pub are_whole : List (List ℕ) → Bool

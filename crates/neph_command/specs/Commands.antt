@@ -7,7 +7,7 @@ use Rattle.neph_model.specs.declared.script.Label.{Label}
 use Rattle.neph_model.specs.Words.{label_name}
 use Rattle.neph_command.specs.Words.{◌>>=◌}
 use Rattle.neph_command.specs.Verbs.{keyword, kinds_of, is_unbuilt}
-use Rattle.neph_command.specs.Kinds.{operands, operand_word, FitAll, FirstFault, addr_in, len_in, bytes_in, vpn_in, pfn_in, mode_in, label_in}
+use Rattle.neph_command.specs.Kinds.{operands, operand_word, FitAll, FirstFault, addr_in, len_in, bytes_in, vpn_in, pfn_in, mode_in, label_in, dom_in, ref_in, handle_in, offset_in}
 use Rattle.neph_command.specs.declared.command.Said.{Said}
 use Rattle.neph_command.specs.declared.command.Said.TheVariants as said
 use Rattle.neph_command.specs.declared.operand.Operand.{Operand}
@@ -39,6 +39,15 @@ command_of verb.JFail (a ∷ []) = label_in a >>- λ label. Some (said.JFail lab
 command_of verb.Exit [] = Some (said.Whole command.Exit)
 command_of verb.Free [] = Some (said.Whole command.Free)
 command_of verb.Clone [] = Some (said.Whole command.Clone)
+command_of verb.Gmap (a ∷ b ∷ []) =
+    dom_in a >>- λ granter. ref_in b >>- λ r. Some (said.Whole (command.Gmap granter r))
+command_of verb.Gunmap (a ∷ []) = handle_in a >>- λ h. Some (said.Whole (command.Gunmap h))
+command_of verb.Hr (a ∷ b ∷ c ∷ []) =
+    handle_in a >>- λ h. offset_in b >>- λ offset. len_in c >>- λ len.
+    Some (said.Whole (command.Hr h offset len))
+command_of verb.Hw (a ∷ b ∷ c ∷ []) =
+    handle_in a >>- λ h. offset_in b >>- λ offset. bytes_in c >>- λ bytes.
+    Some (said.Whole (command.Hw h offset bytes))
 command_of _ _ = None
 
 -- a verb and its operands
@@ -62,6 +71,12 @@ parts_in labels (command.JFail label) = parts verb.JFail (op.Label (label_name l
 parts_in labels command.Exit = parts verb.Exit []
 parts_in labels command.Free = parts verb.Free []
 parts_in labels command.Clone = parts verb.Clone []
+parts_in labels (command.Gmap granter r) = parts verb.Gmap (op.Dom granter ∷ op.Ref r ∷ [])
+parts_in labels (command.Gunmap h) = parts verb.Gunmap (op.Handle h ∷ [])
+parts_in labels (command.Hr h offset len) =
+    parts verb.Hr (op.Handle h ∷ op.Offset offset ∷ op.Len len ∷ [])
+parts_in labels (command.Hw h offset bytes) =
+    parts verb.Hw (op.Handle h ∷ op.Offset offset ∷ op.Bytes bytes ∷ [])
 
 -- the parts of a command as its line says it
 abbrev pub parts_of : Said → Parts
@@ -93,6 +108,8 @@ unless_within end w = if nat_lt 4096 end then Some w else None
 abbrev pub extra : Command → Option Why
 extra (command.W addr bytes) = unless_within (addr % 4096 + length bytes) why.Hex
 extra (command.R addr len) = unless_within (addr % 4096 + len) why.Number
+extra (command.Hr h offset len) = unless_within (offset + len) why.Number
+extra (command.Hw h offset bytes) = unless_within (offset + length bytes) why.Hex
 extra _ = None
 
 abbrev pub extra_said : Said → Option Why

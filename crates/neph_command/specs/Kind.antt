@@ -15,3 +15,11 @@ pub data Kind : Type 0 where
   mode : Kind
   -- a label's name
   label : Kind
+  -- a domain's id, that of domain 0 too
+  dom : Kind
+  -- a grant reference
+  reference : Kind
+  -- a handle
+  handle : Kind
+  -- an offset in a page
+  offset : Kind

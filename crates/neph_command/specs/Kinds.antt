@@ -24,6 +24,10 @@ operand kind.vpn word = as_operand op.Vpn (number 0 262143 word)
 operand kind.pfn word = as_operand op.Pfn (number 0 1023 word)
 operand kind.mode word = as_operand op.Mode (mode word)
 operand kind.label word = as_operand op.Label (name word)
+operand kind.dom word = as_operand op.Dom (number 0 63 word)
+operand kind.reference word = as_operand op.Ref (number 0 63 word)
+operand kind.handle word = as_operand op.Handle (number 0 63 word)
+operand kind.offset word = as_operand op.Offset (number 0 4095 word)
 
 -- what words say, judged from the left
 abbrev pub operands : List Kind → List (List ℕ) → Result (List Operand) Why
@@ -62,6 +66,22 @@ abbrev pub label_in : Operand → Option (List ℕ)
 label_in (op.Label x) = Some x
 label_in _ = None
 
+abbrev pub dom_in : Operand → Option ℕ
+dom_in (op.Dom x) = Some x
+dom_in _ = None
+
+abbrev pub ref_in : Operand → Option ℕ
+ref_in (op.Ref x) = Some x
+ref_in _ = None
+
+abbrev pub handle_in : Operand → Option ℕ
+handle_in (op.Handle x) = Some x
+handle_in _ = None
+
+abbrev pub offset_in : Operand → Option ℕ
+offset_in (op.Offset x) = Some x
+offset_in _ = None
+
 -- the word of an operand
 abbrev pub operand_word : Operand → List ℕ
 operand_word (op.Addr n) = decimal n
@@ -71,6 +91,10 @@ operand_word (op.Vpn n) = decimal n
 operand_word (op.Pfn n) = decimal n
 operand_word (op.Mode m) = mode_word m
 operand_word (op.Label l) = l
+operand_word (op.Dom n) = decimal n
+operand_word (op.Ref n) = decimal n
+operand_word (op.Handle n) = decimal n
+operand_word (op.Offset n) = decimal n
 
 -- 1 to 64 bytes
 pub record IsPiece (bytes : List ℕ) : Type 0 where
@@ -87,6 +111,10 @@ Fits kind.vpn (op.Vpn n) = n ≤ 262143
 Fits kind.pfn (op.Pfn n) = n ≤ 1023
 Fits kind.mode (op.Mode m) = ⊤
 Fits kind.label (op.Label l) = is_name l ≡ true
+Fits kind.dom (op.Dom n) = n ≤ 63
+Fits kind.reference (op.Ref n) = n ≤ 63
+Fits kind.handle (op.Handle n) = n ≤ 63
+Fits kind.offset (op.Offset n) = n ≤ 4095
 Fits _ _ = ⊥
 
 -- operands of these kinds, one each

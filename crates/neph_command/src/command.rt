@@ -2,7 +2,7 @@
 ghost use Rattle.std.specs.Prelude.{◌≡◌, ◌+◌, ◌≤◌, ℕ, List, map};
 ghost use Rattle.neph_command.specs.Commands.{extra, extra_said, said_alone, unless_within, command_said};
 
-use crate::operand::{addr, label, len, pfn, vpn};
+use crate::operand::{addr, dom, handle, label, len, offset, pfn, reference, vpn};
 use crate::verb::Verb;
 use crate::why::Why;
 use crate::word::{mode, piece};
@@ -57,6 +57,21 @@ fn said_alone(verb: Verb, words: &[&[u8]]) -> Result<Said, Why>
         (Verb::Exit, []) => Ok(Said::Whole(Command::Exit)),
         (Verb::Free, []) => Ok(Said::Whole(Command::Free)),
         (Verb::Clone, []) => Ok(Said::Whole(Command::Clone)),
+        (Verb::Gmap, [a, b]) => Ok(Said::Whole(Command::Gmap {
+            granter: dom(a)?,
+            reference: reference(b)?,
+        })),
+        (Verb::Gunmap, [a]) => Ok(Said::Whole(Command::Gunmap { handle: handle(a)? })),
+        (Verb::Hr, [a, b, c]) => Ok(Said::Whole(Command::Hr {
+            handle: handle(a)?,
+            offset: offset(b)?,
+            len: len(c)?,
+        })),
+        (Verb::Hw, [a, b, c]) => Ok(Said::Whole(Command::Hw {
+            handle: handle(a)?,
+            offset: offset(b)?,
+            bytes: piece(c)?,
+        })),
         _ => Err(Why::Form),
     }
 }
@@ -77,6 +92,12 @@ fn extra(command: &Command) -> Option<Why>
     match *command {
         Command::W { addr, bytes } => unless_within(addr.offset(), bytes.bytes().len(), Why::Hex),
         Command::R { addr, len } => unless_within(addr.offset(), len as usize, Why::Number),
+        Command::Hr { offset, len, .. } => {
+            unless_within(offset.get() as usize, len as usize, Why::Number)
+        }
+        Command::Hw { offset, bytes, .. } => {
+            unless_within(offset.get() as usize, bytes.bytes().len(), Why::Hex)
+        }
         _ => None,
     }
 }

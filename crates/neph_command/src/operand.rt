@@ -4,7 +4,7 @@ ghost use Rattle.neph_command.specs.Words.{name, number};
 
 use crate::why::Why;
 use crate::word::{is_name, number};
-use neph_base::{Mode, Pfn, Piece, VAddr, Vpn};
+use neph_base::{DomId, GrantRef, Handle, Mode, PageOffset, Pfn, Piece, VAddr, Vpn};
 
 /// What a word says.
 #[derive(Clone, Copy, Debug, PartialEq, Eq)]
@@ -16,6 +16,10 @@ pub enum Operand {
     Pfn(Pfn),
     Mode(Mode),
     Label(Piece),
+    Dom(DomId),
+    Ref(GrantRef),
+    Handle(Handle),
+    Offset(PageOffset),
 }
 
 /// A word in the place of an address.
@@ -48,6 +52,38 @@ pub fn pfn(word: &[u8]) -> Result<Pfn, Why>
 {
     let n = number(word, 0, 1023)?;
     Pfn::new(n).ok_or(Why::Number)
+}
+
+/// A word in the place of a domain's id, that of domain 0 too.
+pub fn dom(word: &[u8]) -> Result<DomId, Why>
+    ensures { result ≡ number 0 63 word.now }
+{
+    let n = number(word, 0, 63)?;
+    DomId::new(n).ok_or(Why::Number)
+}
+
+/// A word in the place of a grant reference.
+pub fn reference(word: &[u8]) -> Result<GrantRef, Why>
+    ensures { result ≡ number 0 63 word.now }
+{
+    let n = number(word, 0, 63)?;
+    GrantRef::new(n).ok_or(Why::Number)
+}
+
+/// A word in the place of a handle.
+pub fn handle(word: &[u8]) -> Result<Handle, Why>
+    ensures { result ≡ number 0 63 word.now }
+{
+    let n = number(word, 0, 63)?;
+    Handle::new(n).ok_or(Why::Number)
+}
+
+/// A word in the place of an offset in a page.
+pub fn offset(word: &[u8]) -> Result<PageOffset, Why>
+    ensures { result ≡ number 0 4095 word.now }
+{
+    let n = number(word, 0, 4095)?;
+    PageOffset::new(n).ok_or(Why::Number)
 }
 
 /// A word in the place of a label's name.

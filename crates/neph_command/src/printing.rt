@@ -35,6 +35,38 @@ pub fn put_command(text: &mut Vec<u8>, labels: &[Label], command: &Command) -> R
         Command::Exit => put_words(text, Verb::Exit, &[]),
         Command::Free => put_words(text, Verb::Free, &[]),
         Command::Clone => put_words(text, Verb::Clone, &[]),
+        Command::Gmap { granter, reference } => put_words(
+            text,
+            Verb::Gmap,
+            &[Operand::Dom(granter), Operand::Ref(reference)],
+        ),
+        Command::Gunmap { handle } => put_words(text, Verb::Gunmap, &[Operand::Handle(handle)]),
+        Command::Hr {
+            handle,
+            offset,
+            len,
+        } => put_words(
+            text,
+            Verb::Hr,
+            &[
+                Operand::Handle(handle),
+                Operand::Offset(offset),
+                Operand::Len(len),
+            ],
+        ),
+        Command::Hw {
+            handle,
+            offset,
+            bytes,
+        } => put_words(
+            text,
+            Verb::Hw,
+            &[
+                Operand::Handle(handle),
+                Operand::Offset(offset),
+                Operand::Bytes(bytes),
+            ],
+        ),
     }
 }
 
@@ -61,6 +93,10 @@ fn put_operand(text: &mut Vec<u8>, operand: Operand) -> Result<(), NoMemory>
         Operand::Pfn(pfn) => put_number(text, pfn.get()),
         Operand::Mode(mode) => put_mode(text, mode),
         Operand::Label(label) => put_word(text, label.bytes()),
+        Operand::Dom(dom) => put_number(text, dom.get()),
+        Operand::Ref(reference) => put_number(text, reference.get()),
+        Operand::Handle(handle) => put_number(text, handle.get()),
+        Operand::Offset(offset) => put_number(text, offset.get()),
     }
 }
 

@@ -15,6 +15,10 @@ pub enum Verb {
     Exit,
     Free,
     Clone,
+    Gmap,
+    Gunmap,
+    Hr,
+    Hw,
 }
 
 // All of them.
@@ -32,6 +36,10 @@ fn verbs() -> &'static [Verb]
         Verb::Exit,
         Verb::Free,
         Verb::Clone,
+        Verb::Gmap,
+        Verb::Gunmap,
+        Verb::Hr,
+        Verb::Hw,
     ]
 }
 
@@ -51,6 +59,10 @@ impl Verb {
             Verb::Exit => b"exit",
             Verb::Free => b"free",
             Verb::Clone => b"clone",
+            Verb::Gmap => b"gmap",
+            Verb::Gunmap => b"gunmap",
+            Verb::Hr => b"hr",
+            Verb::Hw => b"hw",
         }
     }
 
