@@ -97,6 +97,8 @@ whole_settles : (labels : List Label) (line : ℕ) (c : Command) → InRange (sa
 unfolding Settles
 whole_settles labels line (command.W addr bytes) h = (within _ why.Hex h.right, tt)
 whole_settles labels line (command.R addr len) h = ((h.fits.1.0.0, h.fits.1.0.1, within _ why.Number h.right), tt)
+whole_settles labels line (command.Hr k offset len) h = ((h.fits.1.1.0.0, h.fits.1.1.0.1, within _ why.Number h.right), tt)
+whole_settles labels line (command.Hw k offset bytes) h = (within _ why.Hex h.right, tt)
 whole_settles labels line (command.Jump label) h = absurd cc
 whole_settles labels line (command.JChild label) h = absurd cc
 whole_settles labels line (command.JFail label) h = absurd cc
