@@ -92,5 +92,10 @@ fn put_refusal(text: &mut Vec<u8>, why: Refusal) -> Result<(), NoMemory>
             put_labelled(text, b"frames ", need)?;
             put_labelled(text, b" ", free)
         }
+        Refusal::NoEntry => put_word(text, b"noentry"),
+        Refusal::NotYours => put_word(text, b"notyours"),
+        Refusal::Gone => put_word(text, b"gone"),
+        Refusal::HandlesFull => put_word(text, b"handlesfull"),
+        Refusal::NoHandle => put_word(text, b"nohandle"),
     }
 }
