@@ -50,6 +50,10 @@ module _ {Pool Seat : Type 0} (W : World Pool Seat) (p : Pool) (d : DomLocal Poo
   page_in_hand command.Exit i w e = absurd i
   page_in_hand command.Free i w e = absurd i
   page_in_hand command.Clone i w e = absurd i
+  page_in_hand (command.Gmap granter ref) i w e = absurd i
+  page_in_hand (command.Gunmap held) i w e = absurd i
+  page_in_hand (command.Hr held at n) i w e = absurd i
+  page_in_hand (command.Hw held at bytes) i w e = absurd i
 
   line_step : (s : Script) (k : ℕ) (o : Own) (c : Command) → IsLineInHand W p d c → local_step s k o Enough c ≡ option_map (settle o) (memory_step o c)
   line_step s k o (command.W addr bytes) i = refl
@@ -62,6 +66,10 @@ module _ {Pool Seat : Type 0} (W : World Pool Seat) (p : Pool) (d : DomLocal Poo
   line_step s k o command.Exit i = absurd i
   line_step s k o command.Free i = absurd i
   line_step s k o command.Clone i = absurd i
+  line_step s k o (command.Gmap granter ref) i = absurd i
+  line_step s k o (command.Gunmap held) i = absurd i
+  line_step s k o (command.Hr held at n) i = absurd i
+  line_step s k o (command.Hw held at bytes) i = absurd i
 
   module _ (q : Pool) (e : DomLocal Pool Seat) (count : length e.own.map.pages ≡ length d.own.map.pages) (maps : KeepsMap W p d q e) (leaves : KeepsLeaves W p d q e)
       (bytes : IfSome d.hand (λ h. (x : ℕ) → domain_page W q e x ≡ with_write (domain_page W p d) h.pfn h.at h.bytes x)) where
@@ -84,6 +92,10 @@ module _ {Pool Seat : Type 0} (W : World Pool Seat) (p : Pool) (d : DomLocal Poo
     row_in_hand command.Exit i o m = absurd i
     row_in_hand command.Free i o m = absurd i
     row_in_hand command.Clone i o m = absurd i
+    row_in_hand (command.Gmap granter ref) i o m = absurd i
+    row_in_hand (command.Gunmap held) i o m = absurd i
+    row_in_hand (command.Hr held at n) i o m = absurd i
+    row_in_hand (command.Hw held at bytes) i o m = absurd i
 
     -- the guest g goes on behind its write
     pub copied : (g h : Guest) (s : Script) (k : ℕ) (o : Own) (c : Command) → IsLineInHand W p d c → h.line ≡ g.line + 1 → h.came ≡ g.came → h.failed ≡ false

@@ -58,6 +58,10 @@ module _ {Pool Seat : Type 0} (W : World Pool Seat) (p : Pool) (l : Live Pool Se
   jump_spare command.Exit t j = absurd j
   jump_spare command.Free t j = absurd j
   jump_spare command.Clone t j = absurd j
+  jump_spare (command.Gmap granter ref) t j = absurd j
+  jump_spare (command.Gunmap held) t j = absurd j
+  jump_spare (command.Hr held at n) t j = absurd j
+  jump_spare (command.Hw held at bytes) t j = absurd j
 
   pub jump_look : (c : Command) (t : LocalTurn) → IsJump c → LookDone W p l.local l.local.own c t
   jump_look (command.W addr bytes) t j = absurd j
@@ -70,6 +74,10 @@ module _ {Pool Seat : Type 0} (W : World Pool Seat) (p : Pool) (l : Live Pool Se
   jump_look command.Exit t j = absurd j
   jump_look command.Free t j = absurd j
   jump_look command.Clone t j = absurd j
+  jump_look (command.Gmap granter ref) t j = absurd j
+  jump_look (command.Gunmap held) t j = absurd j
+  jump_look (command.Hr held at n) t j = absurd j
+  jump_look (command.Hw held at bytes) t j = absurd j
 
   pub jump_held : (c : Command) (t : LocalTurn) → IsJump c → HeldSpare W p l.local c t
   jump_held (command.W addr bytes) t j = absurd j
@@ -82,6 +90,10 @@ module _ {Pool Seat : Type 0} (W : World Pool Seat) (p : Pool) (l : Live Pool Se
   jump_held command.Exit t j = absurd j
   jump_held command.Free t j = absurd j
   jump_held command.Clone t j = absurd j
+  jump_held (command.Gmap granter ref) t j = absurd j
+  jump_held (command.Gunmap held) t j = absurd j
+  jump_held (command.Hr held at n) t j = absurd j
+  jump_held (command.Hw held at bytes) t j = absurd j
 
   -- behind a row that left this memory
   module _ (q : Pool) (d : DomLocal Pool Seat) (o : Own) (half : IsOwnHalf W p l o) where

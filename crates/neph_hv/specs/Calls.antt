@@ -16,7 +16,7 @@ use Rattle.neph_memory.specs.declared.dom_local.DomLocal.{DomLocal}
 use Rattle.neph_memory.specs.OwnHalf.{IsMemoryOf}
 use Rattle.neph_local.specs.declared.forking.Fork.{Fork}
 use Rattle.neph_local.specs.Forks.{Forks}
-use Rattle.neph_rows.specs.Records.{shared_of}
+use Rattle.neph_rows.specs.Records.{shared_of, without_handles}
 use Rattle.neph_heap.specs.Heap.{IsBorn}
 use Rattle.neph_hyper.specs.Calls.{Calls}
 use Rattle.neph_hv.specs.declared.hv.Hv.{Hv}
@@ -38,9 +38,9 @@ module _ {Pool Seat : Type 0} (W : World Pool Seat) (p : Pool) (h : Hv Pool Seat
     pub others : Spares W (both_names (W.names h.heap.seat) ns) p q
     pub shares : W.shares q ≡ W.shares p
 
-  -- its tables, its lists and its names are as they were
+  -- its tables but for handles, its lists and its names are as they were
   pub record KeepsTables : Type 0 where
-    pub registry : k.registry ≡ h.registry
+    pub registry : without_handles k.registry ≡ without_handles h.registry
     pub stock : k.heap.stock ≡ h.heap.stock
     pub names : W.names k.heap.seat ≡ W.names h.heap.seat
 

@@ -43,8 +43,8 @@ IsReadMet W p d (command.R addr len) met =
 IsReadMet W p d _ met = ⊤
 
 module _ {Pool Seat : Type 0} (W : World Pool Seat) where
-  -- Its frames are in order, its seat is another than the domain's, and it has the pages that
-  -- aren't the domain's own. The next id is its own still, with nothing put aside.
+  -- The domain is live. The hypervisor's frames are in order, its seat is another than the
+  -- domain's, and it has the pages that aren't the domain's own. The next id is its own still, with nothing put aside.
   pub record IsServed (p : Pool) (h : Hv Pool Seat) (d : DomLocal Pool Seat) : Type 0 where
     pub hv : IsHv W p h
     pub apart : IsApart (W.names h.heap.seat) (W.names d.seat)
@@ -53,6 +53,7 @@ module _ {Pool Seat : Type 0} (W : World Pool Seat) where
     pub name : h.registry.tables.next < 64
         → W.names h.heap.seat h.registry.tables.next ≡ true
     pub none : aside_of h.registry.tables.next h.heap.stock ≡ []
+    pub live : is_live d.id h.registry.lives ≡ true
 
   -- The fork is the first clone that the domain, which is live, has begun, and the frames for its
   -- exposed pages are aside.
@@ -84,4 +85,5 @@ module _ {Pool Seat : Type 0} (W : World Pool Seat) where
         cap = subst (λ (n : ℕ). MAX_HELD ≤ n) (sym others.cap) s.cap;
         name = s.name;
         none = s.none;
+        live = subst (λ (i : ℕ). is_live i h.registry.lives ≡ true) (sym g.id) s.live;
       }

@@ -1,12 +1,12 @@
 // The hypervisor's state, its spare frames and its calls.
-ghost use Rattle.std.specs.Prelude.{◌≡◌, ◌≢◌, ◌++◌, ◌≤◌, ℕ, List, [], ◌∷◌, false, is_some, None, option_to_list};
-ghost use Rattle.neph_model.specs.Machine.{Exposed};
+ghost use Rattle.std.specs.Prelude.{◌≡◌, ◌≢◌, ◌++◌, ◌≤◌, ℕ, List, [], ◌∷◌, true, false, is_some, None, option_to_list};
+ghost use Rattle.neph_model.specs.Machine.{Exposed, is_live};
 ghost use Rattle.neph_model.specs.Step.{locked, shared_line, shared_join};
 ghost use Rattle.neph_model.specs.WellFormed.{FitsPage};
 ghost use Rattle.neph_pool.specs.Names.{IsApart, both_names};
 ghost use Rattle.neph_pool.specs.World.{World, Moves, Spares, Stays};
 ghost use Rattle.neph_memory.specs.Domains.{IsStanding, KeepsPages, KeepsMap, KeepsLeaves};
-ghost use Rattle.neph_rows.specs.Records.{shared_of};
+ghost use Rattle.neph_rows.specs.Records.{shared_of, without_handles};
 ghost use Rattle.neph_rows.specs.Row.{lent_of, MayBeAsked};
 ghost use Rattle.neph_hv.specs.Hv.{IsHv, exposed_in, shared_in};
 
@@ -66,7 +66,7 @@ impl<P: FramePool> Hv<P> {
         true
     }
 
-    /// Does a command of a domain under the lock, but `clone` and `exit`. Takes no memory.
+    /// Does a command of a live domain under the lock, but `clone` and `exit`. Takes no memory.
     pub fn call(
         &mut self,
         pool: &mut P,
@@ -82,11 +82,13 @@ impl<P: FramePool> Hv<P> {
         requires few { lent.leaves ≤ 65535 }
         requires no_clone { command.now ≢ Command.Clone }
         requires no_exit { command.now ≢ Command.Exit }
+        requires live { is_live dom self.old.registry.lives ≡ true }
         ensures hv { IsHv P.world pool.new self.new }
         ensures row { shared_line (shared_in P.world pool.old self.old) dom
             (lent_of lent) told command.now
             ≡ locked (shared_in P.world pool.new self.new) result }
-        ensures registry { self.new.registry ≡ self.old.registry }
+        ensures registry { without_handles self.new.registry
+            ≡ without_handles self.old.registry }
         ensures stock { self.new.heap.stock ≡ self.old.heap.stock }
         ensures moves { Moves P.world pool.old self.old.heap.seat pool.new self.new.heap.seat }
         ensures shares { P.world.shares pool.new ≡ P.world.shares pool.old }

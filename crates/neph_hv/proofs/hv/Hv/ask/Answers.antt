@@ -1,6 +1,6 @@
 use Rattle.std.proofs.Common.{[], ◌∙◌}
 use Rattle.neph_heap.proofs.Heaps.{heap_few}
-use Rattle.neph_hv.proofs.Asking.{may_ask, met_hv, asked_stands, asked_same, asked_done}
+use Rattle.neph_hv.proofs.Asking.{may_ask, met_hv, asked_stands, asked_same, asked_done, asker_lives}
 use Rattle.neph_hv.proofs.hv.Hv.ask.Goals as goal
 
 pub told_to-told-requires : goal.told_to-told-requires
@@ -19,6 +19,11 @@ call-requires-clause-asked g c =
     let e = c.met_by-met.ensures in
     may_ask g.P.FramePool.world c.args.pool.now c.args.self.now c.args.d.now c.requires.serves c.requires.stands c.met_by-met.new.pool c.met_by-met.new.d e.stands e.same e.moves
     c.args.command.now c.met_by-met.result c.requires.asks e.read
+
+pub call-requires-clause-live : goal.call-requires-clause-live
+call-requires-clause-live g c =
+    let e = c.met_by-met.ensures in
+    asker_lives g.P.FramePool.world c.args.pool.now c.args.self.now c.args.d.now c.requires.serves c.requires.stands c.met_by-met.new.pool c.met_by-met.new.d e.stands e.same e.moves
 
 pub returns-clause-stands : goal.returns-clause-stands
 returns-clause-stands g c =
