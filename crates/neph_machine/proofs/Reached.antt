@@ -31,7 +31,7 @@ use Rattle.neph_model.specs.Own.{local_step}
 use Rattle.neph_model.specs.Lent.{Lent, PageBack, lent, own_behind}
 use Rattle.neph_model.specs.Births.{parent_own, join}
 use Rattle.neph_model.specs.Step.{Outcome, locked, call_effect, shared_line, shared_commit, child_made, bear, step, step_by, is_due, is_paused}
-use Rattle.neph_model.specs.Trap.{CallResult, answers, with_exposed_bytes, is_exposed, w_call, clone_call, clone_refusal, need, is_blocked}
+use Rattle.neph_model.specs.Trap.{trap, CallResult, answers, with_exposed_bytes, is_exposed, w_call, clone_call, clone_refusal, need, is_blocked}
 use Rattle.neph_model.specs.Books.{State, free, start_state}
 use Rattle.neph_model.specs.Turns.{nothing, next_command, next_move, move_turn, domain_turn, turn}
 use Rattle.neph_laws.proofs.Apart.{stays_apart}
@@ -39,6 +39,7 @@ use Rattle.neph_flat.specs.Sound as flat
 use Rattle.neph_flat.proofs.OwnKeeps.{runs_line}
 use Rattle.neph_flat.proofs.MachineKeeps.{sound_local, sound_called, sound_commit, sound_join, line_due_is}
 use Rattle.neph_flat.proofs.StartSound.{sound_start}
+use Rattle.neph_laws.proofs.HandleRows.{IsOfHandles, handle_row}
 use Rattle.neph_runs.specs.Orderly.{ForksWell, IsOrderlyAt, seat as part_at}
 use Rattle.neph_runs.proofs.Falls.{live_within}
 use Rattle.neph_runs.proofs.Turning.{IsFresh, forked, joins}
@@ -89,6 +90,10 @@ clone_back : (sh : Shared) (id : ℕ) (g : Guest) (why : Option Refusal) → (ca
 clone_back sh id g (Some why) = refl
 clone_back sh id g None = refl
 
+handles_back : (sh : Shared) (id : ℕ) (l : Lent) (told : Told) (c : Command) → IsOfHandles c → (call_effect sh (trap sh id (guest_at id sh.tables) l told c)).back ≡ None
+handles_back sh id l told c is =
+    handle_row sh id (guest_at id sh.tables) (λ r. (call_effect sh r).back ≡ None) (λ why plain. refl) (λ bytes. refl) (λ m h. refl) (λ m. refl) (λ granter pfn at bytes has. refl) l told c is
+
 line_back : (sh : Shared) (id : ℕ) (l : Lent) (told : Told) (c : Command) → (shared_line sh id l told c).back ≡ None
 line_back sh id l told (command.W addr bytes) = w_back sh id (addr % 4096) bytes l.met
 line_back sh id l told (command.R addr len) = refl
@@ -99,6 +104,10 @@ line_back sh id l told (command.JChild label) = refl
 line_back sh id l told (command.JFail label) = refl
 line_back sh id l told command.Exit = refl
 line_back sh id l told command.Free = refl
+line_back sh id l told (command.Gmap granter r) = handles_back sh id l told (command.Gmap granter r) tt
+line_back sh id l told (command.Gunmap h) = handles_back sh id l told (command.Gunmap h) tt
+line_back sh id l told (command.Hr h at n) = handles_back sh id l told (command.Hr h at n) tt
+line_back sh id l told (command.Hw h at bytes) = handles_back sh id l told (command.Hw h at bytes) tt
 line_back sh id l told command.Clone = clone_back sh id (guest_at id sh.tables) (clone_refusal sh.tables (guest_at id sh.tables) (life_at id sh.lives) (need (exposed_at id sh.pages) l.leaves) told)
 
 -- a turn of a live domain leaves the plain machine sound
@@ -190,7 +199,7 @@ reached s well (a ∷ before) = turn_reached s well (state_after s before) a (re
 
 -- what is known of the own half of a live domain, and of what is kept of it: its pages are there, its virtual pages map to pages, and its line with the children that it has begun and its leaf tables are within their bounds
 pub live_own : (s : Script) (st : State) → IsReached s st → (id : ℕ) → is_some (part_at st id).life ≡ true → flat.IsSoundDomain (part_at st id).own (part_at st id).guest
-live_own s st h id live = h.machine.each id live
+live_own s st h id live = let d = h.machine.each id live in record { own = d.own; commits = d.commits }
 
 -- what is known of the ids of a live domain and of the child that it has begun
 pub live_orderly : (s : Script) (st : State) → IsReached s st → (id : ℕ) → is_some (part_at st id).life ≡ true → IsOrderlyAt id st.machine.shared.tables.next (part_at st id)
