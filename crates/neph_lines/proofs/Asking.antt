@@ -50,6 +50,10 @@ asked_move s p free bs o b (command.JFail label) far e = refl
 asked_move s p free bs o b command.Exit far e = refl
 asked_move s p free bs o b command.Free far e = refl
 asked_move s p free bs o b command.Clone far e = absurd (far refl)
+asked_move s p free bs o b (command.Gmap granter r) far e = refl
+asked_move s p free bs o b (command.Gunmap h) far e = refl
+asked_move s p free bs o b (command.Hr h at len) far e = refl
+asked_move s p free bs o b (command.Hw h at bytes) far e = refl
 
 -- nor can it be done by itself, told what it is told
 pub asked_told : (s : Script) (p free : ℕ) (o : Own) (c : Command) → local_step s p o Enough c ≡ None → local_step s p o (told_of free c) c ≡ None

@@ -126,6 +126,10 @@ module _ {Pool Seat : Type 0} (W : World Pool Seat) (old : Machine Pool Seat) (s
     did_spent command.Exit c_is n r step look after held = absurd (cc)
     did_spent command.Free c_is n r step look after held = absurd (cc)
     did_spent command.Clone c_is n r step look after held = absurd (cc)
+    did_spent (command.Gmap granter ref) c_is n r step look after held = absurd (cc)
+    did_spent (command.Gunmap h) c_is n r step look after held = absurd (cc)
+    did_spent (command.Hr h at len) c_is n r step look after held = absurd (cc)
+    did_spent (command.Hw h at bytes) c_is n r step look after held = absurd (cc)
 
   module _ (c : Command) (ready : IsReadyAt old id c) (survey : IsSurveyed W) (new : Machine Pool Seat) (script : new.script ≡ old.script) (hv : new.hv ≡ old.hv) (k : Live Pool Seat) (spots : new.places.items ≡ set old.places.items id (Domain k))
       (moves : Moves W old.pool l.local.seat new.pool k.local.seat) (dom : k.guest.dom ≡ l.guest.dom) (same : k.local.id ≡ l.local.id) (standing : IsStanding W new.pool k.local) where

@@ -24,7 +24,7 @@ use Rattle.neph_model.specs.Trap.{is_blocked}
 use Rattle.neph_model.specs.Step.{is_paused}
 use Rattle.neph_model.specs.Books.{State, free, no_book, book_at}
 use Rattle.neph_model.specs.Turns.{Done, nothing, noting, ready_move, stage_move, next_command, next_move, move_turn, turn, books_after}
-use Rattle.neph_runs.specs.Orderly.{Seat as Part, seat as part_at, HasPlaces}
+use Rattle.neph_runs.specs.Orderly.{Seat as Part, outline, seat as part_at, HasPlaces}
 use Rattle.neph_runs.proofs.Lines.{does}
 use Rattle.neph_runs.proofs.Falls.{AtLine, none_begun}
 use Rattle.neph_runs.proofs.Seats.{OneChanged, ends_turns}
@@ -107,7 +107,7 @@ module _ (s : Script) (st : State) (id : ℕ) where
 
   -- it leaves the parts of all other ids
   abbrev pub gone : Part
-  gone = record { own = no_own; life = None; guest = no_guest; exposed = fm.empty; book = no_book }
+  gone = record { own = no_own; life = None; guest = no_guest; exposed = outline fm.empty; book = no_book }
 
   pub exit_parts : HasPlaces st → id < 64 → OneChanged st (state_exited st id) id gone
   exit_parts places within = ends_turns st id places within no_book st.books.fresh
