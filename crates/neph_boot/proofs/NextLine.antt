@@ -2,7 +2,6 @@
 use Rattle.std.proofs.Common.{◌≡◌, ℕ, suc, ◌<◌, ◌≤◌, true, false, [], length, get_or, refl, ap, subst, ◌∙◌}
 use Rattle.std.specs.Prelude.{is_some}
 use Rattle.std.proofs.lemmas.List.Elements.{All-get_or}
-use Rattle.neph_model.specs.declared.life.Guest.{Guest as Kept}
 use Rattle.neph_model.specs.declared.script.Script.{Script}
 use Rattle.neph_model.specs.declared.script.Start.{Start}
 use Rattle.neph_model.specs.WellFormed.{IsWellFormed, IsWellFormedStart}
@@ -18,10 +17,6 @@ use Rattle.neph_machine.proofs.OnePlace.{not_begun, no_name}
 use Rattle.neph_boot.specs.Opening.{opened, IsOpening}
 use Rattle.neph_boot.proofs.StartLines.{opened_begun, opened_dead}
 
--- nobody has begun a clone
-pub none_begun : (s : Script) (n j : ℕ) → (part_at (opened n s) j).guest.begun ≡ []
-none_begun s n j = ap (λ (g : Kept). g.begun) (opened_begun s n j)
-
 -- what stands in the place of an id of which the state has nothing, where nobody has begun a clone
 place_empty : {Pool Seat : Type 0} (W : World Pool Seat) (m : Machine Pool Seat) (id : ℕ) (place : Place Pool Seat) (x : ℕ → Part) → is_some (x id).life ≡ false → ((j : ℕ) → (x j).guest.begun ≡ []) → IsPlace W m id place x → place ≡ Empty
 place_empty W m id Empty x dead none h = refl
@@ -34,7 +29,7 @@ line_pages s n d well lt = let h = All-get_or (IsWellFormedStart (length s.progr
 
 module _ {Pool Seat : Type 0} (W : World Pool Seat) (m : Machine Pool Seat) (n : ℕ) (opening : IsOpening W m n) where
   next_empty : place_at (suc n) m.places.items ≡ Empty
-  next_empty = place_empty W m (suc n) (place_at (suc n) m.places.items) (part_at (opened n m.script)) (opened_dead m.script n) (none_begun m.script n) (opening.each (suc n))
+  next_empty = place_empty W m (suc n) (place_at (suc n) m.places.items) (part_at (opened n m.script)) (opened_dead m.script n) (opened_begun m.script n) (opening.each (suc n))
 
   pub next_name : suc n < 64 → W.names m.hv.heap.seat (suc n) ≡ true
   next_name lt = opening.names (suc n) lt ∙ ap is_empty next_empty

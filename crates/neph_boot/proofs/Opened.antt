@@ -13,7 +13,7 @@ use Rattle.neph_model.specs.Start.{started_512s, start_own, start_pages, start_e
 use Rattle.neph_model.specs.WellFormed.{IsWellFormed, frames_of_starts}
 use Rattle.neph_model.specs.Memory.{zero_page}
 use Rattle.neph_model.specs.Own.{page_of}
-use Rattle.neph_runs.specs.Orderly.{Seat as Part, seat as part_at}
+use Rattle.neph_runs.specs.Orderly.{Outline, Seat as Part, seat as part_at}
 use Rattle.neph_pool.specs.declared.entry.Entry.{Entry}
 use Rattle.neph_pool.specs.Names.{only_name}
 use Rattle.neph_pool.specs.World.{World}
@@ -37,8 +37,8 @@ use Rattle.neph_machine.specs.declared.machine.Machine.{Machine}
 use Rattle.neph_machine.specs.Places.{place_at, is_empty}
 use Rattle.neph_machine.specs.StandsFor.{Exposes, IsAtStage, IsDomain, IsPlace}
 use Rattle.neph_boot.specs.Opening.{opened, first_lines, AreMarked, IsOpening, HasOpened}
-use Rattle.neph_boot.proofs.StartLines.{IsNext, formed_first, opened_other, opened_here, opened_pages, exposed_low, frames_left}
-use Rattle.neph_boot.proofs.NextLine.{none_begun, line_pages}
+use Rattle.neph_boot.proofs.StartLines.{opened_begun, IsNext, formed_first, opened_other, opened_here, opened_pages, exposed_low, frames_left}
+use Rattle.neph_boot.proofs.NextLine.{line_pages}
 use Rattle.neph_machine.proofs.Reached.{IsReached, start_reached, live_own, live_sound}
 use Rattle.neph_machine.proofs.Carrying.{same_live, Leaves, LeavesParent, place_same}
 use Rattle.neph_machine.proofs.OnePlace.{not_begun, no_name, full_small}
@@ -103,7 +103,7 @@ module _ {Pool Seat : Type 0} (W : World Pool Seat) (old new : Machine Pool Seat
   other_exposed j far = ap (λ (xs : List (List ExposedFrame)). get_or xs j []) did.exposed ∙ get_or-set_other old.hv.heap.stock.exposed (suc n) j (exposed_of (suc n) new.hv.heap.stock) [] far
 
   no_flights : (j : ℕ) (f : Flight Pool Seat) → place_at j old.places.items ≡ InFlight f → ⊥
-  no_flights j f at = let h = subst (λ (p : Place Pool Seat). IsPlace W old j p (part_at (opened n old.script))) at (opening.each j) in not_begun _ j (none_begun old.script n f.parent) h.1.begun
+  no_flights j f at = let h = subst (λ (p : Place Pool Seat). IsPlace W old j p (part_at (opened n old.script))) at (opening.each j) in not_begun _ j (opened_begun old.script n f.parent) h.1.begun
 
   leaves : (j : ℕ) → j ≢ suc n → Leaves W old new (W.names old.hv.heap.seat) j
   leaves j far = record {
@@ -135,7 +135,7 @@ module _ {Pool Seat : Type 0} (W : World Pool Seat) (old new : Machine Pool Seat
       let h = live_sound (first_lines (suc n) old.script) (opened (suc n) old.script) reached (suc n) next.live in
       let count : length (start_own (suc n) t).pages ≡ t.pages = omega (arith, many, length-replicate (t.pages - 4) (Some zero_page)) in
       let inside : pfn < length (part_at (opened (suc n) old.script) (suc n)).own.pages = let e = ap (λ (o : Own). length o.pages) next.own in let c = did.started.count in omega (arith, e, c, l, count) in
-      sym (some_bytes (W.entries new.pool did.domain.local.seat) (frame_at did.domain.local.own.map.pages pfn)) ∙ ap is_some (did.started.bytes pfn) ∙ sym (ap (λ (o : Own). is_some (page_of o pfn)) next.own) ∙ h.halves.apart pfn inside ∙ ap (λ (e : Exposed). not (is_some (fm.get e pfn))) next.exposed
+      sym (some_bytes (W.entries new.pool did.domain.local.seat) (frame_at did.domain.local.own.map.pages pfn)) ∙ ap is_some (did.started.bytes pfn) ∙ sym (ap (λ (o : Own). is_some (page_of o pfn)) next.own) ∙ h.halves.apart pfn inside ∙ ap (λ (e : Outline). not (e.has pfn)) next.exposed
 
   exposes : Exposes new.hv.heap.stock (suc n) did.domain
   exposes = record {

@@ -6,17 +6,18 @@ use Rattle.std.proofs.lemmas.Bool.{false≢true, eqb-true, eqb-false}
 use Rattle.std.proofs.lemmas.List.{length-set, get_or-set_same, get_or-set_other, ext_get_or}
 use Rattle.std.proofs.lemmas.List.Elements.{All-cons, All-head, All-tail, All-nil}
 use Rattle.std.proofs.lemmas.List.Sums.{sum_by-cons}
+use Rattle.neph_model.specs.declared.life.Guest.{Guest}
 use Rattle.neph_model.specs.declared.book.Book.{Book}
 use Rattle.neph_model.specs.declared.script.Script.{Script}
 use Rattle.neph_model.specs.declared.script.Start.{Start}
 use Rattle.neph_model.specs.declared.book.Stage.TheVariants.{Ready}
 use Rattle.neph_model.specs.WellFormed.{IsWellFormed, IsWellFormedStart, frames_of_starts}
-use Rattle.neph_model.specs.Machine.{Exposed, no_own, no_guest}
-use Rattle.neph_model.specs.Start.{start_own, start_life, start_exposed, started_512s, of_starts, places}
+use Rattle.neph_model.specs.Machine.{Exposed, no_own, no_guest, but_handles, exposed_at}
+use Rattle.neph_model.specs.Start.{start_own, start_life, start_guest, start_exposed, started_512s, of_starts, places}
 use Rattle.neph_model.specs.Books.{no_book, start_books, start_state}
-use Rattle.neph_runs.specs.Orderly.{Seat as Part, seat as part_at}
+use Rattle.neph_runs.specs.Orderly.{Seat as Part, outline, seat as part_at}
 use Rattle.neph_runs.proofs.Seats.{same_seat}
-use Rattle.neph_runs.proofs.Opening.{opens_at, no_guests}
+use Rattle.neph_runs.proofs.Opening.{opens_at, start_begun}
 use Rattle.neph_flat.proofs.StartSound.{repeated, length_places, far_pages}
 use Rattle.neph_boot.specs.Opening.{first_lines, opened}
 
@@ -51,7 +52,12 @@ opened_other s n (suc j) ne =
     let far : j ≢ n = λ e. ne (ap suc e) in
     let k = 63 - length (take (suc n) ts) in
     let l = 63 - length (take n ts) in
-    same_seat _ _ (starts_other no_own start_own ts 1 n k l j far) (starts_other None (λ i t. Some (start_life i t)) ts 1 n k l j far) refl (starts_other {A = Exposed} fm.empty (λ i t. start_exposed) ts 1 n k l j far) (books_other ts 0 n k l j far)
+    same_seat _ _ (starts_other no_own start_own ts 1 n k l j far) (starts_other None (λ i t. Some (start_life i t)) ts 1 n k l j far) (ap but_handles (starts_other {A = Guest} no_guest (λ i t. start_guest) ts 1 n k l j far))
+    (ap outline (starts_other {A = Exposed} fm.empty (λ i t. start_exposed) ts 1 n k l j far)) (books_other ts 0 n k l j far)
+
+exposed_other : (s : Script) (n j : ℕ) → j ≢ suc n → exposed_at j (opened (suc n) s).machine.shared.pages ≡ exposed_at j (opened n s).machine.shared.pages
+exposed_other s n zero ne = refl
+exposed_other s n (suc j) ne = starts_other {A = Exposed} fm.empty (λ i t. start_exposed) s.starts 1 n (63 - length (take (suc n) s.starts)) (63 - length (take n s.starts)) j (λ e. ne (ap suc e))
 
 take_all : {A : Type 0} (xs : List A) → take (length xs) xs ≡ xs
 take_all [] = refl
@@ -87,15 +93,15 @@ pub opened_all : (s : Script) → opened (length s.starts) s ≡ start_state s
 opened_all s = ap (λ (ts : List Start). start_state (record s { starts = ts })) (take_all s.starts)
 
 -- nobody has begun a clone at the start
-pub opened_begun : (s : Script) (n j : ℕ) → (part_at (opened n s) j).guest ≡ no_guest
-opened_begun s n j = no_guests 64 j
+pub opened_begun : (s : Script) (n j : ℕ) → (part_at (opened n s) j).guest.begun ≡ []
+opened_begun s n j = start_begun (first_lines n s) j
 
 -- the domain of the next line
 pub record IsNext (id : ℕ) (t : Start) (x : Part) : Type 0 where
   pub own : x.own ≡ start_own id t
   pub live : is_some x.life ≡ true
-  pub guest : x.guest ≡ no_guest
-  pub exposed : x.exposed ≡ start_exposed
+  pub begun : x.guest.begun ≡ []
+  pub exposed : x.exposed ≡ outline start_exposed
   pub ready : x.book.stage ≡ Ready
   pub spare : x.book.spare ≡ false
 
@@ -111,8 +117,8 @@ opened_here s n d well lt =
     record {
       own = starts_here no_own start_own ts 1 n k d lt ∙ ap (λ i. start_own i t) same;
       live = live;
-      guest = no_guests 64 (suc n);
-      exposed = starts_here {A = Exposed} fm.empty (λ i t. start_exposed) ts 1 n k d lt;
+      begun = opened_begun s (suc n) (suc n);
+      exposed = ap outline (starts_here {A = Exposed} fm.empty (λ i t. start_exposed) ts 1 n k d lt);
       ready = ap (λ (b : Book). b.stage) opens.ready;
       spare = ap (λ (b : Book). b.spare) opens.ready;
     }
@@ -140,7 +146,7 @@ opened_pages s n well lt = ext_get_or fm.empty (set old (suc n) start_exposed) n
         let here : get_or (set old (suc n) start_exposed) (suc n) fm.empty ≡ start_exposed = get_or-set_same old (suc n) start_exposed fm.empty (let l = long n in omega (arith, lt, well.few)) in
         let there : get_or new (suc n) fm.empty ≡ start_exposed = starts_here {A = Exposed} fm.empty (λ i t. start_exposed) s.starts 1 n (63 - length (take (suc n) s.starts)) none lt in
         ap (λ (q : ℕ). get_or (set old (suc n) start_exposed) q fm.empty) same ∙ here ∙ sym there ∙ ap (λ (q : ℕ). get_or new q fm.empty) (sym same)
-    by false e = get_or-set_other old (suc n) i start_exposed fm.empty (eqb-false i (suc n) e) ∙ sym (ap (λ (x : Part). x.exposed) (opened_other s n i (eqb-false i (suc n) e)))
+    by false e = get_or-set_other old (suc n) i start_exposed fm.empty (eqb-false i (suc n) e) ∙ sym (exposed_other s n i (eqb-false i (suc n) e))
 
 -- the exposed pages at the start have numbers below 4
 pub exposed_low : (q : ℕ) → is_some (fm.get start_exposed q) ≡ true → q < 4
@@ -160,9 +166,9 @@ pub opened_dead : (s : Script) (n : ℕ) → is_some (part_at (opened n s) (suc 
 opened_dead s n = ap is_some (starts_past None (λ i t. Some (start_life i t)) s.starts 1 n (63 - length (take n s.starts)))
 
 -- before the first line the state has nothing
-pub opened_none : (s : Script) (j : ℕ) → part_at (opened 0 s) j ≡ record { own = no_own; life = None; guest = no_guest; exposed = fm.empty; book = no_book }
+pub opened_none : (s : Script) (j : ℕ) → part_at (opened 0 s) j ≡ record { own = no_own; life = None; guest = no_guest; exposed = outline fm.empty; book = no_book }
 opened_none s zero = refl
-opened_none s (suc j) = same_seat _ _ (repeated 63 j no_own) (repeated 63 j None) (no_guests 64 (suc j)) (repeated {X = Exposed} 63 j fm.empty) (repeated 63 j no_book)
+opened_none s (suc j) = same_seat _ _ (repeated 63 j no_own) (repeated 63 j None) (ap but_handles (repeated {X = Guest} 63 j no_guest)) (ap outline (repeated {X = Exposed} 63 j fm.empty)) (repeated 63 j no_book)
 
 -- the frames of the lines that are left
 pub frames_left : (s : Script) (n : ℕ) (d : Start) → n < length s.starts → frames_of_starts (drop n s.starts) ≡ ((get_or s.starts n d).pages + 1 + started_512s (get_or s.starts n d).pages) + frames_of_starts (drop (suc n) s.starts)

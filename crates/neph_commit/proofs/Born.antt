@@ -1,7 +1,6 @@
 -- Behind a commit the parent and the child stand in their places.
 use Rattle.std.proofs.Common.{◌≡◌, ℕ, zero, suc, ◌+◌, Bool, true, false, [], IsSome, Some, None, refl, sym, ap, subst, ◌∙◌, arith}
 use Rattle.std.specs.Prelude.{is_some, not, option_map}
-use Rattle.std.specs.FinMap as fm
 use Rattle.std.specs.declared.option.Option.{Option}
 use Rattle.std.proofs.lemmas.List.{length-map, length-set, get_or-set_same}
 use Rattle.neph_model.specs.declared.life.Life.{Life}
@@ -11,7 +10,6 @@ use Rattle.neph_model.specs.Trap.{is_exposed}
 use Rattle.neph_model.specs.Books.{State}
 use Rattle.neph_runs.specs.Orderly.{Seat as Part, seat as part_at}
 use Rattle.neph_runs.proofs.Births.{TwoChanged, parent_seat, child_seat, born, bears}
-use Rattle.neph_runs.proofs.Sound.{child_shown}
 use Rattle.neph_pool.specs.World.{World}
 use Rattle.neph_memory.specs.declared.dom_local.DomLocal.{DomLocal}
 use Rattle.neph_memory.specs.declared.own.Own.{Own as Memory}
@@ -101,8 +99,7 @@ module _ {Pool Seat : Type 0} (W : World Pool Seat) (old new : Machine Pool Seat
     shown_same pfn =
         sym (shown_is (W.entries new.pool new.hv.heap.seat) new.hv.heap.stock.exposed child pfn)
         ∙ ap (λ (sh : Shared). is_exposed sh.pages child pfn) (sym shared_now)
-        ∙ ap (λ (p : Part). is_some (fm.get p.exposed pfn)) parts.child_is
-        ∙ child_shown (part_at st id).exposed pfn
+        ∙ ap (λ (p : Part). p.exposed.has pfn) parts.child_is
         ∙ ap (λ (sh : Shared). is_exposed sh.pages id pfn) stands.shared
         ∙ shown_is (W.entries old.pool old.hv.heap.seat) old.hv.heap.stock.exposed id pfn
 
