@@ -13,7 +13,7 @@ use Rattle.neph_model.specs.declared.book.Stage.TheVariants as book
 use Rattle.neph_model.specs.declared.book.Spends.TheVariants.{Nothing}
 use Rattle.neph_model.specs.declared.told.Told.TheVariants.{Free}
 use Rattle.neph_model.specs.WellFormed.{IsWellFormed}
-use Rattle.neph_model.specs.Machine.{Shared, Machine as Plain}
+use Rattle.neph_model.specs.Machine.{Shared, Machine as Plain, guest_at, but_handles}
 use Rattle.neph_model.specs.Lent.{own_behind}
 use Rattle.neph_model.specs.Trap.{begin_clone}
 use Rattle.neph_model.specs.Step.{locked}
@@ -108,7 +108,7 @@ module _ {Pool Seat : Type 0} (W : World Pool Seat) (old : Machine Pool Seat) (s
 
   -- the shared half behind the begin
   abbrev sh : Shared
-  sh = record st.machine.shared { tables = begin_clone st.machine.shared.tables id x.guest }
+  sh = record st.machine.shared { tables = begin_clone st.machine.shared.tables id (guest_at id st.machine.shared.tables) }
 
   shared_is : shared_in W new.pool new.hv ≡ sh
   shared_is = ap (λ (m : Plain). m.shared) begins.machine
@@ -159,7 +159,7 @@ module _ {Pool Seat : Type 0} (W : World Pool Seat) (old : Machine Pool Seat) (s
     own = record x.own { refused = false }
 
     abbrev kept : Guest
-    kept = record x.guest { begun = x.guest.begun ++ next ∷ []; accepted = x.guest.accepted + 1 }
+    kept = let g = guest_at id st.machine.shared.tables in record g { begun = g.begun ++ next ∷ []; accepted = g.accepted + 1 }
 
     abbrev waiting : Book
     waiting = record x.book { stage = book.Forking (shared_count x.own) }
@@ -167,7 +167,7 @@ module _ {Pool Seat : Type 0} (W : World Pool Seat) (old : Machine Pool Seat) (s
     abbrev after : State
     after = (answered old.script st id sh (Begun fork.child)).state
 
-    turns : OneChanged st after id (record x { own = own; guest = kept; book = waiting })
+    turns : OneChanged st after id (record x { own = own; guest = but_handles kept; book = waiting })
     turns = begins_turns st id (orderly W old st reached stands id l ready.here) small kept own (next + 1) waiting st.books.fresh
 
     one_child : kept.begun ≡ fork.child ∷ []
@@ -180,7 +180,7 @@ module _ {Pool Seat : Type 0} (W : World Pool Seat) (old : Machine Pool Seat) (s
     exposed_same = ap (exposed_of id) left.begun.stock
 
     -- the domain waits for its child
-    domain : k.guest.stage ≡ guest.Forking → k.guest.dom ≡ l.guest.dom → IsOwnHalf W new.pool k own → IsDomain W new id k (record x { own = own; guest = kept; book = waiting })
+    domain : k.guest.stage ≡ guest.Forking → k.guest.dom ≡ l.guest.dom → IsOwnHalf W new.pool k own → IsDomain W new id k (record x { own = own; guest = but_handles kept; book = waiting })
     domain stage dom half = record {
       live = is.live;
       dom = dom ∙ is.dom;

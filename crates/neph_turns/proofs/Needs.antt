@@ -1,12 +1,12 @@
 -- What the turn of a guest needs, where its machine stands for a state.
-use Rattle.std.proofs.Common.{◌≡◌, ◌≢◌, ℕ, ◌<◌, false, List, length, get_or, Option, Some, None, refl, sym, ap, subst, ◌∙◌, arith}
+use Rattle.std.proofs.Common.{◌≡◌, ◌≢◌, ℕ, ◌<◌, true, false, List, length, get_or, Option, Some, None, refl, sym, ap, subst, ◌∙◌, arith}
 use Rattle.std.specs.Prelude.{is_some, nat_lt, not, slice_get}
 use Rattle.std.proofs.lemmas.Bool.{ltb-false}
 use Rattle.std.proofs.lemmas.Option.{slice_get_read, slice_get_past}
 use Rattle.neph_base.specs.declared.command.Command.{Command}
 use Rattle.neph_base.specs.declared.command.Command.TheVariants.{Exit}
 use Rattle.neph_model.specs.declared.script.Program.{Program}
-use Rattle.neph_model.specs.Machine.{Shared, program_of, program_run}
+use Rattle.neph_model.specs.Machine.{Shared, is_live, program_of, program_run}
 use Rattle.neph_model.specs.Programs.{command_in, commands_of, program_at}
 use Rattle.neph_model.specs.WellFormed.{FitsPage}
 use Rattle.neph_model.specs.Books.{State}
@@ -49,6 +49,7 @@ module _ {Pool Seat : Type 0} (W : World Pool Seat) (old : Machine Pool Seat) (s
         cap = stands.cap;
         name = next_named W old st reached stands;
         none = next_none W old st reached stands;
+        live = subst (λ (i : ℕ). is_live i old.hv.registry.lives ≡ true) (sym is.id_is) (sym (ap (λ (sh : Shared). is_live id sh.lives) stands.shared) ∙ is.live);
       }
 
   -- the hypervisor doesn't pause it

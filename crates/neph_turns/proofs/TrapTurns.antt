@@ -82,6 +82,10 @@ is_clone (command.JChild label) = inr (λ e. cc)
 is_clone (command.JFail label) = inr (λ e. cc)
 is_clone command.Exit = inr (λ e. cc)
 is_clone command.Free = inr (λ e. cc)
+is_clone (command.Gmap granter r) = inr (λ e. cc)
+is_clone (command.Gunmap h) = inr (λ e. cc)
+is_clone (command.Hr h at len) = inr (λ e. cc)
+is_clone (command.Hw h at bytes) = inr (λ e. cc)
 
 module _ {Pool Seat : Type 0} (W : World Pool Seat) (old : Machine Pool Seat) (st : State) (reached : IsReached old.script st) (stands : StandsFor W old st) (id : ℕ) (l : Live Pool Seat) (here : place_at id old.places.items ≡ Domain l) (survey : IsSurveyed W) (well : IsWellFormed old.script)
     (new : Machine Pool Seat) (script : new.script ≡ old.script) (m : Live Pool Seat) (spots : new.places.items ≡ set old.places.items id (Domain m)) where
