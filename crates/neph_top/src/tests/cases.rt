@@ -212,7 +212,55 @@ end ended
 ",
 };
 
-pub(super) static CASES: [Case; 8] = [
+// Commands of handles, where none can be had: the first three entries let domain 0 in.
+const HANDLES: Case = Case {
+    script: "nephele 1
+frames 64
+program p
+gmap 2 0
+gmap 0 0
+gmap 2 63
+gmap 63 0
+gunmap 63
+hr 0 4095 1
+hw 0 0 07
+jfail past
+exit
+label past
+clone
+gmap 2 0
+exit
+end
+program q
+exit
+end
+domain p 8 1 open
+domain q 8 0 open
+turns 1 1 1 1 1 1 1 1 2
+",
+    text: "transcript 1
+1:0 gmap 2 0 = no notyours
+1:1 gmap 0 0 = no noentry
+1:2 gmap 2 63 = no noentry
+1:3 gmap 63 0 = no noentry
+1:4 gunmap 63 = no nohandle
+1:5 hr 0 4095 1 = no nohandle
+1:6 hw 0 0 07 = no nohandle
+1:7 jfail past = go
+2:0 exit = ended
+1:9 clone = begin 3
+1:9 commit = 3
+daemon = 3
+1:10 gmap 2 0 = no gone
+3:10 gmap 2 0 = no gone
+1:11 exit = ended
+3:11 exit = ended
+frames 64 colours 0 tables 0 spares 0 aside 0 free 64
+end ended
+",
+};
+
+pub(super) static CASES: [Case; 9] = [
     LAST_REFERENCE,
     CLONE_OF_A_CHILD,
     ENDS_OF_A_PAGE,
@@ -221,4 +269,5 @@ pub(super) static CASES: [Case; 8] = [
     ONE_FRAME_SHORT,
     LEAF_TABLES,
     NO_LEAF_TABLE,
+    HANDLES,
 ];

@@ -21,7 +21,7 @@ const TURNED: &str = "nephele 1\nframes 16\nprogram p\nend\ndomain p 8 0 open\nt
 
 // A place, a line that can't stand there, and what is written: each kind at each place, but for
 // `many`.
-static REFUSED: [(&str, &str, &str); 82] = [
+static REFUSED: [(&str, &str, &str); 89] = [
     // A byte that isn't printed, also on a skipped line.
     (TOP, "nephele\t1", "script 1 bytes\n"),
     (HEADED, "\tframes 16", "script 2 bytes\n"),
@@ -76,6 +76,12 @@ static REFUSED: [(&str, &str, &str); 82] = [
     (INSIDE, "map 262144 4 ro", "script 4 number\n"),
     (INSIDE, "map 0 1024 ro", "script 4 number\n"),
     (INSIDE, "unmap x", "script 4 number\n"),
+    (INSIDE, "gmap 64 0", "script 4 number\n"),
+    (INSIDE, "gmap 1 64", "script 4 number\n"),
+    (INSIDE, "gunmap 64", "script 4 number\n"),
+    (INSIDE, "hr 0 4096 1", "script 4 number\n"),
+    (INSIDE, "hr 0 4095 2", "script 4 number\n"),
+    (INSIDE, "hw 64 0 00", "script 4 number\n"),
     (BETWEEN, "domain p 7 0 open", "script 5 number\n"),
     (BETWEEN, "domain p 8 63 open", "script 5 number\n"),
     (STARTED, "domain p 1025 0 open", "script 6 number\n"),
@@ -85,6 +91,7 @@ static REFUSED: [(&str, &str, &str); 82] = [
     (INSIDE, "w 16384 FF", "script 4 hex\n"),
     (INSIDE, "w 16384 6", "script 4 hex\n"),
     (INSIDE, "w 4095 0000", "script 4 hex\n"),
+    (INSIDE, "hw 0 4095 0000", "script 4 hex\n"),
     // A word that is none of those in its place.
     (INSIDE, "map 10 4 rx", "script 4 word\n"),
     (BETWEEN, "domain p 8 0 shut", "script 5 word\n"),
