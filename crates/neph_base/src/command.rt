@@ -63,6 +63,10 @@ pub enum Command {
     Free,
     /// Clones the domain.
     Clone,
+    /// Takes an entry of the domain's grant table away.
+    Ungrant {
+        reference: GrantRef,
+    },
     /// Maps an entry of the granter's grant table, at the least free handle.
     Gmap {
         granter: DomId,

@@ -57,6 +57,10 @@ pub enum Refusal {
     PolicyP9,
     /// The clone needs more frames than are free.
     Frames { need: u32, free: u32 },
+    /// The domain's grant table has no such entry.
+    NoGrant,
+    /// The entry is mapped, or is one of those that a domain starts with.
+    Busy,
     /// The granter has no such entry, or was never live.
     NoEntry,
     /// The entry lets in other domains.

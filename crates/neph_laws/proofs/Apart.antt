@@ -37,6 +37,7 @@ use Rattle.neph_model.specs.Step.{Outcome, actor, own_step, lends, child_made, b
 use Rattle.neph_model.specs.Laws.{IsApart, StaysApart}
 use Rattle.neph_laws.proofs.Local.{local_alone, locked_is}
 use Rattle.neph_laws.proofs.HandleRows.{IsOfHandles, handle_row, pages_behind, again, written_there}
+use Rattle.neph_laws.proofs.GrantRows.{ungrant_row, without_there}
 
 -- the pages of one domain are each in one half
 abbrev One : List (Option (List ℕ)) → Exposed → Type 0
@@ -134,11 +135,29 @@ module _ (sh : Shared) (id : ℕ) (g : Guest) (o : Own) (within : id < length sh
       let same = written_there sh.pages granter pfn at bytes there in
       (mine reply.Done _ (same id), λ k far. same k, length-set sh.pages granter _)) l told c is
 
+  -- a page that is given back is the domain's own, and isn't exposed
+  back_one : (pfn : ℕ) (bytes : List ℕ) → One (set o.pages pfn (Some bytes)) (fm.remove (exposed_at id sh.pages) pfn)
+  back_one pfn bytes q lt =
+      put_page o.pages pfn q (Some bytes) lt ∙ turned (q == pfn) (one q (omega (arith, lt, length-set o.pages pfn (Some bytes)))) ∙ ap not (sym (without_there (exposed_at id sh.pages) pfn q))
+    where
+      turned : (b : Bool) → is_some (get_or o.pages q None) ≡ not (is_some (fm.get (exposed_at id sh.pages) q)) → cond b true (is_some (get_or o.pages q None)) ≡ not (cond b false (is_some (fm.get (exposed_at id sh.pages) q)))
+      turned true at = refl
+      turned false at = at
+
+  kept_ended : (r : ℕ) → Kept sh id o (command.Ungrant r) (trap.ungrant_call sh id g r)
+  kept_ended r =
+      ungrant_row sh id g (Kept sh id o (command.Ungrant r)) (λ why plain. one) (λ q e may. (one, λ k far pfn. refl, refl))
+      (λ q e may free.
+      let left = fm.remove (exposed_at id sh.pages) e.pfn in
+      let bytes = trap.exposed_bytes sh.pages id e.pfn in
+      (subst (One (set o.pages e.pfn (Some bytes))) (sym (mine left)) (back_one e.pfn bytes), λ k far q. ap (λ (v : Exposed). is_some (fm.get v q)) (others left k far), length-set sh.pages id left)) r
+
   kept : (l : Lent) (told : Told) (c : Command) → Kept sh id o c (trap.trap sh id g l told c)
   kept l told (command.W addr bytes) = kept_shown addr bytes (addr % 4096) bytes l.met
   kept l told (command.R addr len) = (one, λ k far pfn. refl, refl)
   kept l told command.Free = (one, λ k far pfn. refl, refl)
   kept l told command.Clone = kept_cloned (trap.clone_refusal sh.tables g (life_at id sh.lives) (trap.need (exposed_at id sh.pages) l.leaves) told)
+  kept l told (command.Ungrant r) = kept_ended r
   kept l told (command.Gmap granter r) = kept_handles l told (command.Gmap granter r) tt
   kept l told (command.Gunmap h) = kept_handles l told (command.Gunmap h) tt
   kept l told (command.Hr h at n) = kept_handles l told (command.Hr h at n) tt

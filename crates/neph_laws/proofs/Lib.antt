@@ -5,8 +5,10 @@ pub mod Cut
 pub mod Woven
 pub mod Plainly
 pub mod HandleRows
+pub mod GrantRows
 pub mod Refusals
 pub mod Apart
+pub mod Granted
 pub mod Flatly
 pub mod Children
 pub mod Alone

@@ -29,6 +29,7 @@ use Rattle.neph_model.specs.Step.{Outcome, Locked, locked, own_step, own_after, 
 use Rattle.neph_model.specs.Laws.{RefusesPlainly}
 use Rattle.neph_laws.proofs.Local.{local_alone, locked_is}
 use Rattle.neph_laws.proofs.HandleRows.{IsOfHandles, handle_row}
+use Rattle.neph_laws.proofs.GrantRows.{ungrant_row}
 
 abbrev Fine : Reply → Type 0
 Fine r = (why : Refusal) → r ≡ Refused why → ⊥
@@ -131,6 +132,7 @@ call_fine sh id g l told (command.W addr bytes) = call_shown sh id (addr % 4096)
 call_fine sh id g l told (command.R addr len) = λ why e. cc
 call_fine sh id g l told command.Free = λ why e. cc
 call_fine sh id g l told command.Clone = call_cloned sh id g (trap.clone_refusal sh.tables g (life_at id sh.lives) (trap.need (exposed_at id sh.pages) l.leaves) told)
+call_fine sh id g l told (command.Ungrant r) = ungrant_row sh id g CallFine (λ why plain. tt) (λ q x may why e. cc) (λ q x may free why e. cc) r
 call_fine sh id g l told (command.Gmap granter r) = handle_fine sh id g l told (command.Gmap granter r) tt
 call_fine sh id g l told (command.Gunmap h) = handle_fine sh id g l told (command.Gunmap h) tt
 call_fine sh id g l told (command.Hr h at n) = handle_fine sh id g l told (command.Hr h at n) tt

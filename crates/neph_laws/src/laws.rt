@@ -1,5 +1,5 @@
 // Laws of the definitions.
-ghost use Rattle.neph_model.specs.Laws.{LocalAlone, LocalMoves, SharedReplays, WeavesLegally, TracksByCut, MovesOn, RefusesPlainly, StaysApart, WritesFlatly, ReadsFlatly, WritesAlone, CopiesItsParent};
+ghost use Rattle.neph_model.specs.Laws.{LocalAlone, LocalMoves, SharedReplays, WeavesLegally, TracksByCut, MovesOn, RefusesPlainly, StaysApart, StaysGranted, WritesFlatly, ReadsFlatly, WritesAlone, CopiesItsParent};
 
 /// A local entry reads and changes its domain's own half alone.
 pub fn local_alone()
@@ -41,6 +41,11 @@ pub fn refuses_plainly()
 /// An entry leaves each page of each domain in one half alone, where it was so.
 pub fn stays_apart()
     ensures { StaysApart }
+{}
+
+/// An entry leaves each grant of each domain one of an exposed page of its own, where it was so.
+pub fn grants_stay()
+    ensures { StaysGranted }
 {}
 
 /// Whether a page is exposed shows in no `w`.

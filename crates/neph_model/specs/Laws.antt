@@ -10,12 +10,15 @@ use Rattle.neph_base.specs.declared.reply.Noted.{Noted}
 use Rattle.neph_base.specs.declared.reply.Reply.{Reply}
 use Rattle.neph_base.specs.declared.reply.Reply.TheVariants.{Done, Begun, Child, Bytes, Refused}
 use Rattle.neph_base.specs.declared.reply.Refusal.{Refusal}
+use Rattle.neph_grant.specs.declared.entry.GrantEntry.{GrantEntry}
+use Rattle.neph_grant.specs.declared.table.TheConstants.{GRANT_REFS}
+use Rattle.neph_grant.specs.Table.{Grants}
 use Rattle.neph_model.specs.declared.script.Script.{Script}
 use Rattle.neph_model.specs.declared.told.Told.{Told}
 use Rattle.neph_model.specs.declared.told.Told.TheVariants.{Enough}
 use Rattle.neph_model.specs.Memory.{page_with_bytes, page_with_identity, child_network_page, zero_page}
 use Rattle.neph_model.specs.Programs.{command_at}
-use Rattle.neph_model.specs.Machine.{Own, Life, Shared, Machine, own_at, is_live, life_at, guest_at, program_run, put_own}
+use Rattle.neph_model.specs.Machine.{Own, Life, Shared, Machine, Exposed, own_at, is_live, life_at, guest_at, exposed_at, program_run, put_own}
 use Rattle.neph_model.specs.Own.{page_of, mapping_at}
 use Rattle.neph_model.specs.Lent.{PageBack, own_behind}
 use Rattle.neph_model.specs.Trap.{is_exposed}
@@ -125,6 +128,30 @@ StaysApart =
     → actor e < length m.own
     → IfSome (child_made e (step s m e told).reply) (λ child. (child < length m.own)
     × (child ≢ actor e)) → IsApart m → IsApart (step s m e told).machine
+
+-- an entry with this reference names a page of a domain of n pages, of which these are exposed
+pub record NamesExposed (n : ℕ) (pages : Exposed) (r pfn : ℕ) : Type 0 where
+  pub low : r < GRANT_REFS
+  pub exposed : is_some (fm.get pages pfn) ≡ true
+  pub inside : pfn < n
+
+-- each entry of a grant table does
+abbrev pub AreGranted : Grants → ℕ → Exposed → Type 0
+AreGranted t n pages =
+    (r : ℕ) (e : GrantEntry) → fm.get t r ≡ Some e → NamesExposed n pages r e.pfn
+
+-- each entry of each domain names an exposed page of that domain
+abbrev pub IsGranted : Machine → Type 0
+IsGranted m = (id : ℕ) → AreGranted (guest_at id m.shared.tables).grants
+    (length (own_at id m.own).pages) (exposed_at id m.shared.pages)
+
+-- An entry of the machine leaves each grant so, where it was.
+abbrev pub StaysGranted : Type 0
+StaysGranted =
+    (s : Script) (m : Machine) (e : Entry) (told : Told) → length m.own ≡ length m.shared.pages
+    → length m.own ≡ length m.shared.tables.guests → actor e < length m.own
+    → IfSome (child_made e (step s m e told).reply) (λ child. (child < length m.own)
+    × (child ≢ actor e)) → IsGranted m → IsGranted (step s m e told).machine
 
 -- Whether a page is exposed shows in no `w`: where its address maps to a page for writing and no
 -- frame lacks, the reply is ok and the domain's page has the bytes.

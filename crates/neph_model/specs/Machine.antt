@@ -52,6 +52,10 @@ no_guest = record { accepted = 0; begun = []; grants = map.empty; handles = map.
 abbrev pub but_handles : Guest → Guest
 but_handles g = record g { handles = map.empty }
 
+-- nor for its grants
+abbrev pub but_shares : Guest → Guest
+but_shares g = record g { grants = map.empty; handles = map.empty }
+
 -- the own half of an id
 abbrev pub own_at : ℕ → List Own → Own
 own_at id own = slice_index_or own id no_own

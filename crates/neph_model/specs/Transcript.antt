@@ -8,7 +8,7 @@ use Rattle.neph_base.specs.declared.reply.Entry.TheVariants.{Line, Commit, Daemo
 use Rattle.neph_base.specs.declared.reply.Reply.{Reply}
 use Rattle.neph_base.specs.declared.reply.Reply.TheVariants.{Done, Go, On, Ended, Number, Begun, Child, Bytes, Refused}
 use Rattle.neph_base.specs.declared.reply.Refusal.{Refusal}
-use Rattle.neph_base.specs.declared.reply.Refusal.TheVariants.{Unmapped, ReadOnly, BadPfn, NoFrame, Limit, Ids, PolicyNet, PolicyP9, Frames, NoEntry, NotYours, Gone, HandlesFull, NoHandle}
+use Rattle.neph_base.specs.declared.reply.Refusal.TheVariants.{Unmapped, ReadOnly, BadPfn, NoFrame, Limit, Ids, PolicyNet, PolicyP9, Frames, NoGrant, Busy, NoEntry, NotYours, Gone, HandlesFull, NoHandle}
 use Rattle.neph_model.specs.declared.script.Script.{Script}
 use Rattle.neph_model.specs.declared.script.Program.{Program}
 use Rattle.neph_model.specs.declared.script.Start.{Start}
@@ -28,6 +28,8 @@ refusal_text Ids = codes "ids"
 refusal_text PolicyNet = codes "policy net"
 refusal_text PolicyP9 = codes "policy p9"
 refusal_text (Frames need free) = codes "frames " ++ decimal need ++ codes " " ++ decimal free
+refusal_text NoGrant = codes "nogrant"
+refusal_text Busy = codes "busy"
 refusal_text NoEntry = codes "noentry"
 refusal_text NotYours = codes "notyours"
 refusal_text Gone = codes "gone"

@@ -14,10 +14,12 @@ use Rattle.neph_base.specs.declared.reply.Refusal.{Refusal}
 use Rattle.neph_base.specs.declared.reply.Refusal.TheVariants as refusal
 use Rattle.neph_grant.specs.declared.entry.GrantEntry.{GrantEntry}
 use Rattle.neph_grant.specs.declared.handles.GrantMapping.{GrantMapping}
+use Rattle.neph_grant.specs.declared.faults.EndFault.{EndFault}
+use Rattle.neph_grant.specs.declared.faults.EndFault.TheVariants.{NoGrant, Busy}
 use Rattle.neph_grant.specs.declared.faults.MapRefused.{MapRefused}
 use Rattle.neph_grant.specs.declared.faults.MapRefused.TheVariants.{NoEntry, NotYours}
-use Rattle.neph_grant.specs.Handles.{Mappings, free_handle, with_mapping}
-use Rattle.neph_grant.specs.Table.{admit_answer}
+use Rattle.neph_grant.specs.Handles.{Mappings, free_handle, with_mapping, maps_entry}
+use Rattle.neph_grant.specs.Table.{Grants, names_page, end_answer, admit_answer}
 use Rattle.neph_model.specs.declared.memory.Mapping.{Mapping}
 use Rattle.neph_model.specs.declared.told.Told.{Told}
 use Rattle.neph_model.specs.declared.told.Told.TheVariants.{Enough, Short, Free}
@@ -118,6 +120,41 @@ clone_call sh id g (Some why) = Err why
 clone_call sh id g None = answers (record sh { tables = begin_clone sh.tables id g })
     (reply.Begun sh.tables.next)
 
+-- the shared half with these grants of a domain
+abbrev pub with_grants : Shared → ℕ → Guest → Grants → Shared
+with_grants sh id g t = record sh { tables = put_guest id (record g { grants = t }) sh.tables }
+
+-- a domain has this entry of the granter mapped
+abbrev pub is_mapped : Tables → ℕ → ℕ → Bool
+is_mapped t granter r = list_any (λ (g : Guest). maps_entry g.handles granter r) t.guests
+
+-- the exposed pages without this one
+abbrev pub without_exposed : List Exposed → ℕ → ℕ → List Exposed
+without_exposed pages id pfn = slice_set pages id (fm.remove (exposed_at id pages) pfn)
+
+-- accepted, and this exposed page is the domain's own again
+abbrev pub gives_back : Shared → ℕ → ℕ → CallResult
+gives_back sh id pfn = Ok (record {
+  tables = sh.tables;
+  pages = without_exposed sh.pages id pfn;
+  reply = reply.Done;
+  back = Some (record { pfn = pfn; bytes = exposed_bytes sh.pages id pfn });
+})
+
+-- An entry that named this page was taken away, and these are left. The page is exposed as long as
+-- one of them names it.
+abbrev pub end_entry : Shared → ℕ → Guest → Grants → ℕ → CallResult
+end_entry sh id g left pfn = let ended = with_grants sh id g left in
+    if names_page left pfn then answers ended reply.Done else gives_back ended id pfn
+
+-- `ungrant`
+abbrev pub ungrant_call : Shared → ℕ → Guest → ℕ → CallResult
+ungrant_call sh id g r = by (end_answer g.grants r (is_mapped sh.tables id r)) where
+  by : Result ℕ EndFault → CallResult
+  by (Err NoGrant) = Err refusal.NoGrant
+  by (Err Busy) = Err refusal.Busy
+  by (Ok pfn) = end_entry sh id g (fm.remove g.grants r) pfn
+
 -- a clone that was begun and isn't committed has this child
 abbrev pub is_begun : Tables → ℕ → Bool
 is_begun t id = list_any (λ (g : Guest). list_any (λ child. child == id) g.begun) t.guests
@@ -193,6 +230,7 @@ trap sh id g l told command.Free = answers sh (reply.Number (free_told told))
 trap sh id g l told command.Clone =
     clone_call sh id g (clone_refusal sh.tables g (life_at id sh.lives)
     (need (exposed_at id sh.pages) l.leaves) told)
+trap sh id g l told (command.Ungrant r) = ungrant_call sh id g r
 trap sh id g l told (command.Gmap granter r) = gmap_call sh id g granter r
 trap sh id g l told (command.Gunmap h) = gunmap_call sh id g h
 trap sh id g l told (command.Hr h at len) = hr_call sh at len (fm.get g.handles h)

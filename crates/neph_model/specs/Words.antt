@@ -3,7 +3,7 @@ use Rattle.std.specs.Prelude.{ℕ, ◌+◌, ◌/◌, ◌%◌, nat_lt, if◌then�
 use Rattle.std.specs.List.{flat_map, join_with_byte}
 use Rattle.std.specs.Fmt.{decimal}
 use Rattle.neph_base.specs.declared.command.Command.{Command}
-use Rattle.neph_base.specs.declared.command.Command.TheVariants.{W, R, Map, Unmap, Jump, JChild, JFail, Exit, Free, Clone, Gmap, Gunmap, Hr, Hw}
+use Rattle.neph_base.specs.declared.command.Command.TheVariants.{W, R, Map, Unmap, Jump, JChild, JFail, Exit, Free, Clone, Ungrant, Gmap, Gunmap, Hr, Hw}
 use Rattle.neph_base.specs.declared.command.Mode.{Mode}
 use Rattle.neph_base.specs.declared.command.Mode.TheVariants.{Ro, Rw}
 use Rattle.neph_model.specs.declared.script.Label.{Label}
@@ -46,6 +46,7 @@ command_words labels (JFail label) = codes "jfail" ∷ label_name labels label �
 command_words labels Exit = codes "exit" ∷ []
 command_words labels Free = codes "free" ∷ []
 command_words labels Clone = codes "clone" ∷ []
+command_words labels (Ungrant r) = codes "ungrant" ∷ decimal r ∷ []
 command_words labels (Gmap granter r) = codes "gmap" ∷ decimal granter ∷ decimal r ∷ []
 command_words labels (Gunmap h) = codes "gunmap" ∷ decimal h ∷ []
 command_words labels (Hr h offset len) =

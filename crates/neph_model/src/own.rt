@@ -50,6 +50,14 @@ impl Pages {
             page.write(at, bytes);
         }
     }
+
+    /// Puts a page into its place.
+    pub fn put(&mut self, pfn: usize, page: Page)
+        requires { pfn < length self.old }
+        ensures { self.new ≡ slice_set self.old pfn (Some page) }
+    {
+        self.list[pfn] = Some(page);
+    }
 }
 
 impl TryClone for Pages {

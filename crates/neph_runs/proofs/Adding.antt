@@ -28,6 +28,7 @@ use Rattle.neph_runs.proofs.Turning.{IsFresh, fresh_move, forked, move_falls, jo
 use Rattle.neph_runs.proofs.Says.{Reasons, WritesWhere, move_reasons}
 use Rattle.neph_runs.proofs.Colours.{bit, times_child}
 use Rattle.neph_runs.proofs.Accounts.{need_with, tables_at, aside_at, frames_used, free_is, two_use, colours_born}
+use Rattle.neph_runs.proofs.Steps.{half_of}
 use Rattle.neph_runs.proofs.Sound.{parent_halves, child_halves, new_most}
 use Rattle.neph_runs.proofs.Caps.{later_capped, child_capped, child_size}
 use Rattle.neph_runs.proofs.Rooms.{IsSoundAt, IsSound, seat_command, two_seats, quiet_sound, line_sound}
@@ -95,8 +96,8 @@ module _ (s : Script) (well : IsWellFormed s) (st : State) (id : ℕ) (sound : I
       let spares = born_spares bs id child pb cb (bs.fresh + k) booked placed ne refl refl in
       let room = sound.room in
       let room' : frames_used new ≤ s.frames = omega (arith, uses.0, uses.1, spares, colours, tables_old, tables_parent, tables_child, aside_old, aside_parent, aside_child, zero, fresh, hides, room) in
-      let seats = two_seats (IsSoundAt s) st new id child p c sound.seats bears (λ l. record { halves = parent_halves x.own x.exposed h.halves; writes = tt; capped = later_capped s x.life x.own (parent_own x.own) h.capped refl refl (omega arith); sized = h.sized })
-      (λ l. record { halves = child_halves child id x.own x.exposed h.halves; writes = tt; capped = child_capped s id x.life x.own (child_own child id x.own) h.capped (length-set x.own.pages 0 _) refl (omega arith); sized = length-set x.own.pages 0 _ ∙ h.sized ∙ child_size id x.life }) in
+      let seats = two_seats (IsSoundAt s) st new id child p c sound.seats bears (λ l. record { halves = parent_halves (half_of x) h.halves; writes = tt; capped = later_capped s x.life x.own (parent_own x.own) h.capped refl refl (omega arith); sized = h.sized })
+      (λ l. record { halves = child_halves child id (half_of x) h.halves; writes = tt; capped = child_capped s id x.life x.own (child_own child id x.own) h.capped (length-set x.own.pages 0 _) refl (omega arith); sized = length-set x.own.pages 0 _ ∙ h.sized ∙ child_size id x.life }) in
       subst (IsSound s) (sym did.0) (record { orderly = orderly; seats = seats; room = room' })
 
   steps_writes : (stage : Stage) (c : Command) → (left : ℕ) → stage ≡ Forking (suc left) → WritesWhere (stage_stepped stage) c

@@ -208,7 +208,7 @@ module _ (s : Script) (well : IsWellFormed s) (st : State) (id : ℕ) (orderly :
       let b = book_after x.own out.reply b0 in
       let plain : b ≡ record b0 { stage = Ready } = plain_book x.own out.reply b0 g.on in
       let fresh = fresh_spent spends st.books.fresh in
-      let y : Seat = record x { own = g.after; exposed = outline (exposed_at id out.machine.shared.pages); book = b } in
+      let y : Seat = record x { own = g.after; guest = but_handles (guest_at id out.machine.shared.tables); exposed = outline (exposed_at id out.machine.shared.pages); book = b } in
       let z : Seat = record y { book = record b0 { stage = Ready } } in
       let same : y ≡ z = ap (λ (v : Book). record y { book = v }) plain in
       let new = after_line st id spends out in
@@ -228,7 +228,7 @@ module _ (s : Script) (well : IsWellFormed s) (st : State) (id : ℕ) (orderly :
             (record {
               low = h.low;
               high = omega (arith, h.high, next);
-              forks = none_begun id (next_id st) x.guest.begun x.book.stage at h.forks;
+              forks = ap (λ (v : Guest). v.begun) g.tables.here ∙ none_begun id (next_id st) x.guest.begun x.book.stage at h.forks;
               pages = omega (arith, g.pages, h.pages);
               colours = spent_size spends st.books.fresh x.book ∙ h.colours ∙ sym g.pages;
             }));

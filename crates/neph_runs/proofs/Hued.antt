@@ -37,7 +37,7 @@ use Rattle.neph_runs.proofs.Births.{child_seat, commit_born, bears}
 use Rattle.neph_runs.proofs.Falls.{next_id, live_within, after_line, plain_book}
 use Rattle.neph_runs.proofs.Turning.{IsFresh, forked, joins, joins_seats}
 use Rattle.neph_runs.proofs.Says.{Says, Reasons}
-use Rattle.neph_runs.proofs.Steps.{Steps}
+use Rattle.neph_runs.proofs.Steps.{Steps, half_of, half_at}
 use Rattle.neph_runs.proofs.StepsBy.{leaf_of, page_written, command_steps}
 use Rattle.neph_runs.proofs.Colours.{times}
 use Rattle.neph_runs.proofs.Rooms.{IsSound, seat_command}
@@ -67,24 +67,24 @@ module _ (s : Script) (well : IsWellFormed s) (st : State) (id : ℕ) (sound : I
       (λ l pfn inside own. subst (λ (l : List ℕ). pages_of (get_or l pfn 0) new.books ≤ 1) (sym same) (stays_one bs new.books re (get_or x.book.colours pfn 0) (all.solo id live pfn inside own))) (λ l. absurd (false≢true (sym l ∙ live)))
 
   goes_coloured : (told : Told) (spends : Spends) (out : Outcome) (c : Command) → Says (free s st) st.books x.own x.book c told spends → Goes st.machine id out
-      → Steps x.own x.exposed (own_at id out.machine.own) (outline (exposed_at id out.machine.shared.pages)) (leaf_of spends) (page_written x.own told c) → AreColoured (after_line st id spends out)
+      → Steps (half_of x) (half_at out.machine id) (leaf_of spends) (page_written x.own told c) → AreColoured (after_line st id spends out)
   goes_coloured told spends out c says g steps =
       let bs = st.books in
       let b0 = book_spent spends bs.fresh x.book in
       let b = book_after x.own out.reply b0 in
       let plain : b ≡ record b0 { stage = Ready } = plain_book x.own out.reply b0 g.on in
       let fresh = fresh_spent spends bs.fresh in
-      let y : Seat = record x { own = g.after; exposed = outline (exposed_at id out.machine.shared.pages); book = b } in
+      let y : Seat = record x { own = g.after; guest = but_handles (guest_at id out.machine.shared.tables); exposed = outline (exposed_at id out.machine.shared.pages); book = b } in
       let new = after_line st id spends out in
       let p = sound.orderly.places in
       let turns = goes_turns st id p within out g b fresh in
       let h = sound.seats id live in
       let o = sound.orderly.seats id live in
       let own : own_at id out.machine.own ≡ g.after = ap (own_at id) g.own ∙ get_or-set_same st.machine.own id g.after no_own (omega (arith, p.own)) in
-      let stepped : Steps x.own x.exposed g.after y.exposed (leaf_of spends) (page_written x.own told c) = subst (λ n. Steps x.own x.exposed n y.exposed (leaf_of spends) (page_written x.own told c)) own steps in
+      let stepped : Steps (half_of x) (half_of y) (leaf_of spends) (page_written x.own told c) = subst (λ n. Steps (half_of x) (record (half_at out.machine id) { own = n }) (leaf_of spends) (page_written x.own told c)) own steps in
       let re : Recolours bs new.books = spent_recolours st all id booked spends b (λ k. let e = ap (λ (v : Book). times k v.colours) plain in omega (arith, e)) in
       one_coloured st all id booked new y re turns
-      (λ l pfn inside mine. subst (λ (v : Book). pages_of (get_or v.colours pfn 0) new.books ≤ 1) (sym plain) (steps_solo st all id booked live h.halves o.colours new.books re (free s st) c told spends g.after y.exposed says stepped pfn inside mine))
+      (λ l pfn inside mine. subst (λ (v : Book). pages_of (get_or v.colours pfn 0) new.books ≤ 1) (sym plain) (steps_solo st all id booked live h.halves o.colours new.books re (free s st) c told spends (half_of y) says stepped pfn inside mine))
       (λ l. absurd (false≢true (sym l ∙ live)))
 
   ends_coloured : (spends : Spends) (out : Outcome) → Ends st.machine id out → AreColoured (after_line st id spends out)
@@ -110,7 +110,7 @@ module _ (s : Script) (well : IsWellFormed s) (st : State) (id : ℕ) (sound : I
   begun = record { machine = record { own = set st.machine.own id (record x.own { refused = false }); shared = record st.machine.shared { tables = begin_clone st.machine.shared.tables id (guest_at id st.machine.shared.tables) } }; reply = reply.Begun (next_id st) }
 
   begins_coloured : (told : Told) (spends : Spends) (out : Outcome) (c : Command) → Says (free s st) st.books x.own x.book c told spends → Begins st.machine id told out
-      → Steps x.own x.exposed (own_at id out.machine.own) (outline (exposed_at id out.machine.shared.pages)) (leaf_of spends) (page_written x.own told c) → AreColoured (after_line st id spends out)
+      → Steps (half_of x) (half_at out.machine id) (leaf_of spends) (page_written x.own told c) → AreColoured (after_line st id spends out)
   begins_coloured told spends out c says e steps = subst AreColoured (sym (ap (after_line st id spends) whole)) began where
     whole : out ≡ begun
     whole = ap (λ m. record { machine = m; reply = out.reply }) e.machine ∙ ap (λ r. record { machine = begun.machine; reply = r }) e.reply
@@ -131,10 +131,9 @@ module _ (s : Script) (well : IsWellFormed s) (st : State) (id : ℕ) (sound : I
         let ord = sound.orderly.seats id live in
         let re : Recolours bs new.books = spent_recolours st all id booked spends b (λ k. omega arith) in
         let own : own_at id out.machine.own ≡ o = ap (λ (v : Outcome). own_at id v.machine.own) whole ∙ get_or-set_same st.machine.own id o no_own (omega (arith, p.own)) in
-        let shown : outline (exposed_at id out.machine.shared.pages) ≡ x.exposed = ap (λ (v : Outcome). outline (exposed_at id v.machine.shared.pages)) whole in
-        let stepped : Steps x.own x.exposed o x.exposed (leaf_of spends) (page_written x.own told c) = subst (λ f. Steps x.own x.exposed o f (leaf_of spends) (page_written x.own told c)) shown (subst (λ n. Steps x.own x.exposed n (outline (exposed_at id out.machine.shared.pages)) (leaf_of spends) (page_written x.own told c)) own steps) in
+        let stepped : Steps (half_of x) (record (half_at out.machine id) { own = o }) (leaf_of spends) (page_written x.own told c) = subst (λ n. Steps (half_of x) (record (half_at out.machine id) { own = n }) (leaf_of spends) (page_written x.own told c)) own steps in
         one_coloured st all id booked new y re turns
-        (λ l pfn inside mine. steps_solo st all id booked live h.halves ord.colours new.books re (free s st) c told spends o x.exposed says stepped pfn inside mine)
+        (λ l pfn inside mine. steps_solo st all id booked live h.halves ord.colours new.books re (free s st) c told spends (record (half_at out.machine id) { own = o }) says stepped pfn inside mine)
         (λ l. absurd (false≢true (sym l ∙ live)))
 
   line_coloured : (told : Told) (spends : Spends) → Says (free s st) st.books x.own x.book (seat_command s x) told spends → AreColoured (line_turn s st id told spends).state
@@ -143,8 +142,8 @@ module _ (s : Script) (well : IsWellFormed s) (st : State) (id : ℕ) (sound : I
       let c = seat_command s x in
       let out = step s m (Line id x.own.line) told in
       let p = sound.orderly.places in
-      let steps : c ≢ command.Exit → Steps x.own x.exposed (own_at id out.machine.own) (outline (exposed_at id out.machine.shared.pages)) (leaf_of spends) (page_written x.own told c) = λ far.
-      command_steps m id told (omega (arith, within, p.own)) (omega (arith, within, p.exposed)) s c x.book st.books (free s st) spends far says in
+      let steps : c ≢ command.Exit → Steps (half_of x) (half_at out.machine id) (leaf_of spends) (page_written x.own told c) = λ far.
+      command_steps m id told (omega (arith, within, p.own)) (omega (arith, within, p.exposed)) (omega (arith, within, p.guests)) (sound.seats id live).halves s c x.book st.books (free s st) spends far says in
       let goes : Goes m id out → AreColoured (after_line st id spends out) = λ g. goes_coloured told spends out c says g (steps (goes_no_exit s m id told c g.on)) in
       let begins : Begins m id told out → AreColoured (after_line st id spends out) = λ e.
       let is = begins_clone s m id told c (next_id st) e.reply in

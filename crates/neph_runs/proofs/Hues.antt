@@ -24,10 +24,10 @@ use Rattle.neph_runs.specs.Orderly.{Seat, seat, Outline}
 use Rattle.neph_runs.proofs.Sums.{same_or}
 use Rattle.neph_runs.proofs.Seats.{OneChanged}
 use Rattle.neph_runs.proofs.Says.{Says}
-use Rattle.neph_runs.proofs.Steps.{Steps}
+use Rattle.neph_runs.proofs.Steps.{Half, half_of, Steps}
 use Rattle.neph_runs.proofs.StepsBy.{leaf_of, written_to, page_written}
 use Rattle.neph_runs.proofs.Colours.{bit, bit_cases, times, times_cons, pages_put, pages_least}
-use Rattle.neph_runs.proofs.Sound.{AreHalves}
+use Rattle.neph_runs.proofs.Sound.{AreHalves, still_hidden}
 use Rattle.neph_runs.proofs.Rooms.{copy_of, copy_most, spent_times, fresh_is}
 
 -- a page is exposed, or known to be alone
@@ -194,20 +194,21 @@ module _ (st : State) (all : AreColoured st) (id : ℕ) (lt : id < length st.boo
   wrote_solo live new re n command.Exit t sp pfn inside within says e = absurd cc
   wrote_solo live new re n command.Free t sp pfn inside within says e = absurd cc
   wrote_solo live new re n command.Clone t sp pfn inside within says e = absurd cc
+  wrote_solo live new re n (command.Ungrant r) t sp pfn inside within says e = absurd cc
   wrote_solo live new re n (command.Gmap granter r) t sp pfn inside within says e = absurd cc
   wrote_solo live new re n (command.Gunmap h) t sp pfn inside within says e = absurd cc
   wrote_solo live new re n (command.Hr h at len) t sp pfn inside within says e = absurd cc
   wrote_solo live new re n (command.Hw h at bytes) t sp pfn inside within says e = absurd cc
 
   -- the pages of a domain behind a line
-  pub steps_solo : (live : is_some x.life ≡ true) → AreHalves x.own x.exposed → length x.book.colours ≡ length x.own.pages → (new : Books) → Recolours st.books new → (n : ℕ) (c : Command) (t : Told) (sp : Spends) (after : Own) (f : Outline) → Says n st.books x.own x.book c t sp
-      → Steps x.own x.exposed after f (leaf_of sp) (page_written x.own t c) → (pfn : ℕ) → pfn < length after.pages → IsOwn after pfn → pages_of (get_or (book_spent sp st.books.fresh x.book).colours pfn 0) new ≤ 1
-  steps_solo live halves same new re n c t sp after f says steps pfn lt own =
+  pub steps_solo : (live : is_some x.life ≡ true) → AreHalves (half_of x) → length x.book.colours ≡ length x.own.pages → (new : Books) → Recolours st.books new → (n : ℕ) (c : Command) (t : Told) (sp : Spends) (after : Half) → Says n st.books x.own x.book c t sp
+      → Steps (half_of x) after (leaf_of sp) (page_written x.own t c) → (pfn : ℕ) → pfn < length after.own.pages → IsOwn after.own pfn → pages_of (get_or (book_spent sp st.books.fresh x.book).colours pfn 0) new ≤ 1
+  steps_solo live halves same new re n c t sp after says steps pfn lt own =
       let inside : pfn < length x.own.pages = omega (arith, lt, steps.pages) in
       let within : pfn < length x.book.colours = omega (arith, inside, same) in
       let old : IsOwn x.own pfn → pages_of (get_or (book_spent sp st.books.fresh x.book).colours pfn 0) new ≤ 1 = λ o. kept_solo new re sp pfn within (all.solo id live pfn inside o) in
       elim own as (λ o. pages_of (get_or (book_spent sp st.books.fresh x.book).colours pfn 0) new ≤ 1) [
-        | inl none ↦ old (inl (sym (steps.halves pfn) ∙ none))
+        | inl none ↦ old (inl (still_hidden (half_of x) after (leaf_of sp) (page_written x.own t c) steps pfn inside none))
         | inr alone ↦
             elim (steps.alone pfn alone) as (λ o. pages_of (get_or (book_spent sp st.books.fresh x.book).colours pfn 0) new ≤ 1) [
               | inl k ↦ elim k as (λ o. pages_of (get_or (book_spent sp st.books.fresh x.book).colours pfn 0) new ≤ 1) [ inl a ↦ old (inr a) | inr shown ↦ old (inl (halves.apart pfn inside ∙ ap not shown)) ]

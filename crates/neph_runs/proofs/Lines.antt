@@ -26,15 +26,17 @@ use Rattle.neph_model.specs.declared.told.Told.{Told}
 use Rattle.neph_model.specs.declared.told.Told.TheVariants.{Enough, Short, Free}
 use Rattle.neph_model.specs.Memory.{page_with_bytes}
 use Rattle.neph_model.specs.Programs.{commands_of, labels_of, program_at, command_in, command_at, label_line}
-use Rattle.neph_model.specs.Machine.{Tables, Shared, Machine, own_at, life_at, guest_at, exposed_at, program_run, no_own, no_guest, put_own, put_guest, but_handles}
+use Rattle.neph_model.specs.Machine.{Tables, Shared, Machine, own_at, life_at, guest_at, exposed_at, program_run, no_own, no_guest, put_own, put_guest, but_handles, but_shares}
 use Rattle.neph_model.specs.Own.{LocalResult, page_of, mapping_at, with_alone, with_bytes, with_mapping, with_leaf, is_bad_pfn, has_leaf, w_step, r_step, leaf_step, map_step, unmap_step, settle, jump_step, local_step}
-use Rattle.neph_model.specs.Lent.{Lent, lent, own_given, own_replied, own_behind, with_page_back}
-use Rattle.neph_model.specs.Trap.{Accepted, CallResult, answers, is_exposed, exposed_bytes, with_exposed_bytes, w_call, r_call, trap, with_handles, free_told, need, lacks_frames, clone_refusal, begin_clone, clone_call}
+use Rattle.neph_model.specs.Lent.{Lent, PageBack, lent, own_given, own_replied, own_behind, with_page_back}
+use Rattle.neph_model.specs.Trap.{Accepted, CallResult, answers, is_exposed, exposed_bytes, with_exposed_bytes, w_call, r_call, trap, with_handles, ungrant_call, free_told, need, lacks_frames, clone_refusal, begin_clone, clone_call}
 use Rattle.neph_grant.specs.Handles.{Mappings}
+use Rattle.neph_grant.specs.Table.{Grants}
 use Rattle.neph_model.specs.Births.{end_domain}
 use Rattle.neph_model.specs.Step.{Outcome, call_effect, shared_line, step}
 use Rattle.neph_model.specs.WellFormed.{JumpsAhead, IsWellFormedProgram, IsWellFormed}
 use Rattle.neph_laws.proofs.HandleRows.{IsOfHandles, handle_row, put_as}
+use Rattle.neph_laws.proofs.GrantRows.{ungrant_row}
 use Rattle.neph_runs.specs.Orderly.{outline}
 use Rattle.neph_runs.proofs.Steps.{written_outline}
 
@@ -44,27 +46,33 @@ GoesOn reply.Ended = ⊥
 GoesOn (reply.Begun child) = ⊥
 GoesOn _ = ⊤
 
--- the tables keep all but handles
-pub record KeepsTables (t new : Tables) : Type 0 where
+-- the tables keep all but handles, and of the domain of an id all but its grants too
+pub record KeepsTables (id : ℕ) (t new : Tables) : Type 0 where
   pub next : new.next ≡ t.next
   pub waiting : new.waiting ≡ t.waiting
   pub guests : length new.guests ≡ length t.guests
-  pub each : (j : ℕ) → but_handles (guest_at j new) ≡ but_handles (guest_at j t)
+  pub each : (j : ℕ) → j ≢ id → but_handles (guest_at j new) ≡ but_handles (guest_at j t)
+  pub here : but_shares (guest_at id new) ≡ but_shares (guest_at id t)
 
-same_tables : (t : Tables) → KeepsTables t t
-same_tables t = record { next = refl; waiting = refl; guests = refl; each = λ j. refl }
+same_tables : (id : ℕ) (t : Tables) → KeepsTables id t t
+same_tables id t = record { next = refl; waiting = refl; guests = refl; each = λ j ne. refl; here = refl }
 
-handled_tables : (t : Tables) (id : ℕ) (hs : Mappings) → KeepsTables t (put_guest id (record (guest_at id t) { handles = hs }) t)
+handled_tables : (t : Tables) (id : ℕ) (hs : Mappings) → KeepsTables id t (put_guest id (record (guest_at id t) { handles = hs }) t)
 handled_tables t id hs =
     let g : Guest = record (guest_at id t) { handles = hs } in
-    record { next = refl; waiting = refl; guests = length-set t.guests id g; each = put_as but_handles t.guests id g no_guest refl }
+    record { next = refl; waiting = refl; guests = length-set t.guests id g; each = λ j ne. put_as but_handles t.guests id g no_guest refl j; here = put_as but_shares t.guests id g no_guest refl id }
+
+granted_tables : (t : Tables) (id : ℕ) (gs : Grants) → KeepsTables id t (put_guest id (record (guest_at id t) { grants = gs }) t)
+granted_tables t id gs =
+    let g : Guest = record (guest_at id t) { grants = gs } in
+    record { next = refl; waiting = refl; guests = length-set t.guests id g; each = λ j ne. ap but_handles (get_or-set_other t.guests id j g no_guest ne); here = put_as but_shares t.guests id g no_guest refl id }
 
 -- The domain of an id goes on: its own half is this, with as many pages. Of the other ids nothing changes but the bytes of exposed pages.
 pub record Goes (m : Machine) (id : ℕ) (out : Outcome) : Type 0 where
   pub after : Own
   pub own : out.machine.own ≡ set m.own id after
   pub lives : out.machine.shared.lives ≡ m.shared.lives
-  pub tables : KeepsTables m.shared.tables out.machine.shared.tables
+  pub tables : KeepsTables id m.shared.tables out.machine.shared.tables
   pub exposed : length out.machine.shared.pages ≡ length m.shared.pages
   pub others : (j : ℕ) → j ≢ id → outline (exposed_at j out.machine.shared.pages) ≡ outline (exposed_at j m.shared.pages)
   pub later : (own_at id m.own).line < after.line
@@ -148,10 +156,9 @@ keeps_unmap o vpn (Some to) = (record { pages = refl }, tt)
 
 -- an accepted call of a domain that goes on
 record Answers (sh : Shared) (id : ℕ) (a : Accepted) : Type 0 where
-  tables : KeepsTables sh.tables a.tables
+  tables : KeepsTables id sh.tables a.tables
   exposed : length a.pages ≡ length sh.pages
   others : (j : ℕ) → j ≢ id → outline (exposed_at j a.pages) ≡ outline (exposed_at j sh.pages)
-  back : a.back ≡ None
   on : GoesOn a.reply
 
 abbrev CallsOn : Shared → ℕ → CallResult → Type 0
@@ -159,7 +166,7 @@ CallsOn sh id (Ok a) = Answers sh id a
 CallsOn sh id (Err why) = ⊤
 
 answers_on : (sh : Shared) (id : ℕ) (r : Reply) → GoesOn r → CallsOn sh id (answers sh r)
-answers_on sh id r on = record { tables = same_tables sh.tables; exposed = refl; others = λ j ne. refl; back = refl; on = on }
+answers_on sh id r on = record { tables = same_tables id sh.tables; exposed = refl; others = λ j ne. refl; on = on }
 
 w_on : (sh : Shared) (id at : ℕ) (bytes : List ℕ) (met : Option Mapping) → CallsOn sh id (w_call sh id at bytes met)
 w_on sh id at bytes None = tt
@@ -170,7 +177,7 @@ w_on sh id at bytes (Some to) = either (is_exposed sh.pages id to.pfn) to.mode w
 
   go : (mode : Mode) → CallsOn sh id (by mode)
   go Ro = tt
-  go Rw = record { tables = same_tables sh.tables; exposed = length-set sh.pages id _; others = λ j ne. ap outline (get_or-set_other sh.pages id j _ map.empty ne); back = refl; on = tt }
+  go Rw = record { tables = same_tables id sh.tables; exposed = length-set sh.pages id _; others = λ j ne. ap outline (get_or-set_other sh.pages id j _ map.empty ne); on = tt }
 
   either : (b : Bool) (mode : Mode) → CallsOn sh id (cond b (by mode) (Err NoFrame))
   either true mode = go mode
@@ -180,9 +187,16 @@ w_on sh id at bytes (Some to) = either (is_exposed sh.pages id to.pfn) to.mode w
 handled_on : (sh : Shared) (id : ℕ) (l : Lent) (told : Told) (c : Command) → IsOfHandles c → CallsOn sh id (trap sh id (guest_at id sh.tables) l told c)
 handled_on sh id =
     let handles : (hs : Mappings) (r : Reply) → GoesOn r → CallsOn sh id (answers (with_handles sh id (guest_at id sh.tables) hs) r) = λ hs r on.
-    record { tables = handled_tables sh.tables id hs; exposed = refl; others = λ j ne. refl; back = refl; on = on } in
+    record { tables = handled_tables sh.tables id hs; exposed = refl; others = λ j ne. refl; on = on } in
     handle_row sh id (guest_at id sh.tables) (CallsOn sh id) (λ why plain. tt) (λ bytes. answers_on sh id (reply.Bytes bytes) tt) (λ hs h. handles hs (reply.Number h) tt) (λ hs. handles hs reply.Done tt)
-    (λ granter pfn at bytes there. record { tables = same_tables sh.tables; exposed = length-set sh.pages granter _; others = λ j ne. written_outline sh.pages granter pfn at bytes there j; back = refl; on = tt })
+    (λ granter pfn at bytes there. record { tables = same_tables id sh.tables; exposed = length-set sh.pages granter _; others = λ j ne. written_outline sh.pages granter pfn at bytes there j; on = tt })
+
+-- `ungrant`
+ended_on : (sh : Shared) (id r : ℕ) → CallsOn sh id (ungrant_call sh id (guest_at id sh.tables) r)
+ended_on sh id =
+    let g = guest_at id sh.tables in
+    ungrant_row sh id g (CallsOn sh id) (λ why plain. tt) (λ q e may. record { tables = granted_tables sh.tables id (map.remove g.grants q); exposed = refl; others = λ j ne. refl; on = tt })
+    (λ q e may free. record { tables = granted_tables sh.tables id (map.remove g.grants q); exposed = length-set sh.pages id _; others = λ j ne. ap outline (get_or-set_other sh.pages id j _ map.empty ne); on = tt })
 
 module _ (m : Machine) (id : ℕ) (told : Told) where
   abbrev o : Own
@@ -200,7 +214,7 @@ module _ (m : Machine) (id : ℕ) (told : Told) where
       record { machine = record { own = set m.own id (own_replied (with_page_back (given did.reply) did.back) did.reply); shared = did.shared }; reply = did.reply }
 
   went : (new : Own) (r : Reply) → Keeps o new → GoesOn r → o.line < new.line → Kind m id told (record { machine = put_own id new m; reply = r })
-  went new r k on later = inl (record { after = new; own = refl; lives = refl; tables = same_tables m.shared.tables; exposed = refl; others = λ j ne. refl; later = later; pages = k.pages; on = on })
+  went new r k on later = inl (record { after = new; own = refl; lives = refl; tables = same_tables id m.shared.tables; exposed = refl; others = λ j ne. refl; later = later; pages = k.pages; on = on })
 
   settled : (lock : Outcome) (x : LocalResult) → Kind m id told lock → KeepsBy o x → Kind m id told (out_by lock (option_map (settle o) x))
   settled lock None h k = h
@@ -222,21 +236,25 @@ module _ (m : Machine) (id : ℕ) (told : Told) where
   replied x (reply.Bytes bs) on = (refl, refl)
   replied x (reply.Refused why) on = (refl, refl)
 
+  backed : (x : Own) (back : Option PageBack) → ((with_page_back x back).line ≡ x.line) × (length (with_page_back x back).pages ≡ length x.pages)
+  backed x None = (refl, refl)
+  backed x (Some p) = (refl, length-set x.pages p.pfn (Some p.bytes))
+
   calls : (given : Reply → Own) → ((r : Reply) → (given r).line ≡ o.line) → ((r : Reply) → length (given r).pages ≡ length o.pages) → (x : CallResult) → CallsOn m.shared id x → Kind m id told (called given x)
   calls given lines pages (Ok a) h =
-      let plain : with_page_back (given a.reply) a.back ≡ given a.reply = ap (with_page_back (given a.reply)) h.back in
-      let did = replied (given a.reply) a.reply h.on in
+      let back = backed (given a.reply) a.back in
+      let did = replied (with_page_back (given a.reply) a.back) a.reply h.on in
       let line = lines a.reply in
       inl
       (record {
-        after = own_replied (given a.reply) a.reply;
-        own = ap (λ x. set m.own id (own_replied x a.reply)) plain;
+        after = own_replied (with_page_back (given a.reply) a.back) a.reply;
+        own = refl;
         lives = refl;
         tables = h.tables;
         exposed = h.exposed;
         others = h.others;
-        later = omega (arith, did.0, line);
-        pages = ap (λ l. length l) did.1 ∙ pages a.reply;
+        later = omega (arith, did.0, back.0, line);
+        pages = ap (λ l. length l) did.1 ∙ back.1 ∙ pages a.reply;
         on = h.on;
       })
   calls given lines pages (Err why) h =
@@ -246,7 +264,7 @@ module _ (m : Machine) (id : ℕ) (told : Told) where
         after = own_replied (given (reply.Refused why)) (reply.Refused why);
         own = refl;
         lives = refl;
-        tables = same_tables m.shared.tables;
+        tables = same_tables id m.shared.tables;
         exposed = refl;
         others = λ j ne. refl;
         later = omega (arith, line);
@@ -306,6 +324,13 @@ module _ (m : Machine) (id : ℕ) (told : Told) where
   handled : (c : Command) → IsOfHandles c → Kind m id told (called (λ r. o) (handles_call c))
   handled c is = alone (handles_call c) (handled_on m.shared id (lent o c) told c is)
 
+  -- what `ungrant` comes to
+  abbrev ended_call : ℕ → CallResult
+  ended_call r = ungrant_call m.shared id (guest_at id m.shared.tables) r
+
+  ended : (r : ℕ) → Kind m id told (called (λ q. o) (ended_call r))
+  ended r = alone (ended_call r) (ended_on m.shared id r)
+
   locks_on : (c : Command) → c ≢ command.Exit → Kind m id told (locks c)
   locks_on (command.W addr bytes) far = calls (own_given o (command.W addr bytes)) (λ r. (given_w addr bytes r).0) (λ r. (given_w addr bytes r).1) (w_call m.shared id (addr % 4096) bytes (mapping_at o addr)) (w_on m.shared id (addr % 4096) bytes (mapping_at o addr))
   locks_on (command.R addr len) far = alone (r_call m.shared id (addr % 4096) len (mapping_at o addr)) (answers_on m.shared id (reply.Bytes (option_map_or (λ (x : Mapping). take len (drop (addr % 4096) (exposed_bytes m.shared.pages id x.pfn))) (mapping_at o addr) [])) tt)
@@ -317,6 +342,7 @@ module _ (m : Machine) (id : ℕ) (told : Told) where
   locks_on command.Exit far = absurd (far refl)
   locks_on command.Free far = alone (answers m.shared (reply.Number (free_told told))) (answers_on m.shared id (reply.Number (free_told told)) tt)
   locks_on command.Clone far = cloned (clone_refusal m.shared.tables (guest_at id m.shared.tables) (life_at id m.shared.lives) (need (exposed_at id m.shared.pages) (length o.leaves)) told) refl
+  locks_on (command.Ungrant r) far = ended r
   locks_on (command.Gmap granter r) far = handled (command.Gmap granter r) tt
   locks_on (command.Gunmap h) far = handled (command.Gunmap h) tt
   locks_on (command.Hr h at n) far = handled (command.Hr h at n) tt
@@ -340,6 +366,7 @@ module _ (m : Machine) (id : ℕ) (told : Told) where
   kind s command.Exit ahead = ends
   kind s command.Free ahead = locks_on command.Free (λ e. absurd cc)
   kind s command.Clone ahead = locks_on command.Clone (λ e. absurd cc)
+  kind s (command.Ungrant r) ahead = ended r
   kind s (command.Gmap granter r) ahead = handled (command.Gmap granter r) tt
   kind s (command.Gunmap h) ahead = handled (command.Gunmap h) tt
   kind s (command.Hr h at n) ahead = handled (command.Hr h at n) tt
@@ -374,6 +401,7 @@ module _ (m : Machine) (id : ℕ) (told : Told) where
   goes_on s command.Exit far off = absurd (far refl)
   goes_on s command.Free far off = tt
   goes_on s command.Clone far off = absurd (off refl)
+  goes_on s (command.Ungrant r) far off = on_called (λ q. o) (ended_call r) (ended_on m.shared id r)
   goes_on s (command.Gmap granter r) far off = handled_goes (command.Gmap granter r) tt
   goes_on s (command.Gunmap h) far off = handled_goes (command.Gunmap h) tt
   goes_on s (command.Hr h at n) far off = handled_goes (command.Hr h at n) tt
@@ -424,6 +452,7 @@ clone_or (command.JChild label) = inr (λ e. absurd cc)
 clone_or (command.JFail label) = inr (λ e. absurd cc)
 clone_or command.Exit = inr (λ e. absurd cc)
 clone_or command.Free = inr (λ e. absurd cc)
+clone_or (command.Ungrant r) = inr (λ e. absurd cc)
 clone_or (command.Gmap granter r) = inr (λ e. absurd cc)
 clone_or (command.Gunmap h) = inr (λ e. absurd cc)
 clone_or (command.Hr h at n) = inr (λ e. absurd cc)

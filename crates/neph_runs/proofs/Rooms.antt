@@ -34,7 +34,7 @@ use Rattle.neph_runs.proofs.Seats.{OneChanged, book_turns, goes_turns, ends_turn
 use Rattle.neph_runs.proofs.Births.{TwoChanged}
 use Rattle.neph_runs.proofs.Falls.{AtLine, next_id, live_within, after_line, none_begun, plain_book, line_falls}
 use Rattle.neph_runs.proofs.Says.{Says, WritesWhere}
-use Rattle.neph_runs.proofs.Steps.{Steps}
+use Rattle.neph_runs.proofs.Steps.{Steps, half_of, half_at}
 use Rattle.neph_runs.proofs.StepsBy.{leaf_of, page_written, command_steps}
 use Rattle.neph_runs.proofs.Colours.{bit, times, times_set, spares_put}
 use Rattle.neph_runs.proofs.Accounts.{aside_at, frames_used, free_is, one_uses, colours_put, need_with}
@@ -47,7 +47,7 @@ seat_command s x = command_at s (program_of x.life) x.own.line
 
 -- the halves of a live domain are apart, it copies only at a write, it stands on no more frames than its family may, and its life tells how many pages it has
 pub record IsSoundAt (s : Script) (x : Seat) : Type 0 where
-  pub halves : AreHalves x.own x.exposed
+  pub halves : AreHalves (half_of x)
   pub writes : WritesWhere x.book.stage (seat_command s x)
   pub capped : IsCapped s x.life x.own
   pub sized : length x.own.pages ≡ size_of x.life
@@ -162,22 +162,22 @@ module _ (s : Script) (well : IsWellFormed s) (st : State) (id : ℕ) (sound : I
 
   -- a line of a domain that goes on
   goes_sound : (told : Told) (spends : Spends) (out : Outcome) → AtLine x.book.stage → (c : Command) → c ≡ seat_command s x → Says (free s st) st.books x.own x.book c told spends → IsOrderly (after_line st id spends out) → Goes st.machine id out
-      → Steps x.own x.exposed (own_at id out.machine.own) (outline (exposed_at id out.machine.shared.pages)) (leaf_of spends) (page_written x.own told c) → IsSound s (after_line st id spends out)
+      → Steps (half_of x) (half_at out.machine id) (leaf_of spends) (page_written x.own told c) → IsSound s (after_line st id spends out)
   goes_sound told spends out at c is says orderly g steps =
       let bs = st.books in
       let b0 = book_spent spends bs.fresh x.book in
       let b = book_after x.own out.reply b0 in
       let plain : b ≡ record b0 { stage = Ready } = plain_book x.own out.reply b0 g.on in
       let fresh = fresh_spent spends bs.fresh in
-      let y : Seat = record x { own = g.after; exposed = outline (exposed_at id out.machine.shared.pages); book = b } in
+      let y : Seat = record x { own = g.after; guest = but_handles (guest_at id out.machine.shared.tables); exposed = outline (exposed_at id out.machine.shared.pages); book = b } in
       let new = after_line st id spends out in
       let p = sound.orderly.places in
       let turns = goes_turns st id p within out g b fresh in
       let h = sound.seats id live in
       let o = sound.orderly.seats id live in
       let own : own_at id out.machine.own ≡ g.after = ap (own_at id) g.own ∙ get_or-set_same st.machine.own id g.after no_own (omega (arith, p.own)) in
-      let stepped : Steps x.own x.exposed g.after y.exposed (leaf_of spends) (page_written x.own told c) = subst (λ n. Steps x.own x.exposed n y.exposed (leaf_of spends) (page_written x.own told c)) own steps in
-      let halves = steps_halves x.own g.after x.exposed y.exposed (leaf_of spends) (page_written x.own told c) stepped h.halves in
+      let stepped : Steps (half_of x) (half_of y) (leaf_of spends) (page_written x.own told c) = subst (λ n. Steps (half_of x) (record (half_at out.machine id) { own = n }) (leaf_of spends) (page_written x.own told c)) own steps in
+      let halves = steps_halves (half_of x) (half_of y) (leaf_of spends) (page_written x.own told c) stepped h.halves in
       let writes : WritesWhere b.stage (seat_command s y) = subst (λ (v : Book). WritesWhere v.stage (seat_command s y)) (sym plain) tt in
       let capped = steps_capped s x.life x.own g.after c x.book bs (free s st) told spends h.capped is says stepped.pages stepped.leaves g.later in
       let uses = one_uses st new id y within turns in
@@ -190,7 +190,7 @@ module _ (s : Script) (well : IsWellFormed s) (st : State) (id : ℕ) (sound : I
       let tables_old = ap (λ v. cond v (1 + length x.own.leaves) 0) live in
       let tables_new = ap (λ v. cond v (1 + length g.after.leaves) 0) live in
       let leaves = stepped.leaves in
-      let aside_new : aside_at y ≡ 0 = ap (λ v. cond v (length x.guest.begun * need_with y.exposed (length g.after.leaves)) 0) live ∙ ap (λ (l : List ℕ). length l * need_with y.exposed (length g.after.leaves)) none ∙ omega arith in
+      let aside_new : aside_at y ≡ 0 = ap (λ v. cond v (length y.guest.begun * need_with y.exposed (length g.after.leaves)) 0) live ∙ ap (λ (l : List ℕ). length l * need_with y.exposed (length g.after.leaves)) (ap (λ (v : Guest). v.begun) g.tables.here ∙ none) ∙ omega arith in
       let room = sound.room in
       let room' : frames_used new ≤ s.frames = omega (arith, uses.0, uses.1, spares, colours, room, spare, same_spare, tables_old, tables_new, leaves, aside_new) in
       record { orderly = orderly; seats = one_seats (IsSoundAt s) st new id y sound.seats turns (λ l. record { halves = halves; writes = writes; capped = capped; sized = stepped.pages ∙ h.sized }); room = room' }
@@ -256,7 +256,7 @@ module _ (s : Script) (well : IsWellFormed s) (st : State) (id : ℕ) (sound : I
         let frees = free_is s st in
         let room = sound.room in
         let room' : frames_used new ≤ s.frames = omega (arith, uses.0, uses.1, spares, colours, spare, tables_old, aside_new, few, frees, room) in
-        record { orderly = subst IsOrderly whole orderly; seats = one_seats (IsSoundAt s) st new id y sound.seats turns (λ l. let k = h.halves in record { halves = record { hides = k.hides; apart = k.apart; maps = k.maps; marks = k.marks; devices = k.devices; identity = k.identity }; writes = tt; capped = h.capped; sized = h.sized }); room = room' }
+        record { orderly = subst IsOrderly whole orderly; seats = one_seats (IsSoundAt s) st new id y sound.seats turns (λ l. let k = h.halves in record { halves = record { hides = k.hides; apart = k.apart; maps = k.maps; marks = k.marks; devices = k.devices; identity = k.identity; named = k.named; inside = k.inside; low = k.low; high = k.high }; writes = tt; capped = h.capped; sized = h.sized }); room = room' }
 
   -- a line
   pub line_sound : (told : Told) (spends : Spends) → AtLine x.book.stage → Says (free s st) st.books x.own x.book (seat_command s x) told spends → IsSound s (line_turn s st id told spends).state
@@ -266,8 +266,8 @@ module _ (s : Script) (well : IsWellFormed s) (st : State) (id : ℕ) (sound : I
       let out = step s m (Line id x.own.line) told in
       let p = sound.orderly.places in
       let orderly = (line_falls s well st id sound.orderly live told spends at).orderly in
-      let steps : c ≢ command.Exit → Steps x.own x.exposed (own_at id out.machine.own) (outline (exposed_at id out.machine.shared.pages)) (leaf_of spends) (page_written x.own told c) = λ far.
-      command_steps m id told (omega (arith, within, p.own)) (omega (arith, within, p.exposed)) s c x.book st.books (free s st) spends far says in
+      let steps : c ≢ command.Exit → Steps (half_of x) (half_at out.machine id) (leaf_of spends) (page_written x.own told c) = λ far.
+      command_steps m id told (omega (arith, within, p.own)) (omega (arith, within, p.exposed)) (omega (arith, within, p.guests)) (sound.seats id live).halves s c x.book st.books (free s st) spends far says in
       let goes : Goes m id out → IsSound s (after_line st id spends out) = λ g. goes_sound told spends out at c refl says orderly g (steps (goes_no_exit s m id told c g.on)) in
       let begins : Begins m id told out → IsSound s (after_line st id spends out) = λ e.
       let is = begins_clone s m id told c (next_id st) e.reply in

@@ -39,6 +39,7 @@ Says n bs o b (command.Jump label) Enough Nothing = ⊤
 Says n bs o b (command.JChild label) Enough Nothing = ⊤
 Says n bs o b (command.JFail label) Enough Nothing = ⊤
 Says n bs o b command.Exit Enough Nothing = ⊤
+Says n bs o b (command.Ungrant r) Enough Nothing = ⊤
 Says n bs o b (command.Gmap granter r) Enough Nothing = ⊤
 Says n bs o b (command.Gunmap h) Enough Nothing = ⊤
 Says n bs o b (command.Hr h at len) Enough Nothing = ⊤
@@ -87,6 +88,7 @@ module _ (n : ℕ) (bs : Books) (o : Own) (b : Book) (paused blocked : Bool) (ru
   copying_reasons command.Exit w = absurd cc
   copying_reasons command.Free w = absurd cc
   copying_reasons command.Clone w = absurd cc
+  copying_reasons (command.Ungrant r) w = absurd cc
   copying_reasons (command.Gmap granter r) w = absurd cc
   copying_reasons (command.Gunmap h) w = absurd cc
   copying_reasons (command.Hr h at len) w = absurd cc
@@ -109,6 +111,7 @@ module _ (n : ℕ) (bs : Books) (o : Own) (b : Book) (paused blocked : Bool) (ru
   ready_reasons command.Exit = (runs, tt)
   ready_reasons command.Free = (runs, refl)
   ready_reasons command.Clone = (runs, refl)
+  ready_reasons (command.Ungrant r) = (runs, tt)
   ready_reasons (command.Gmap granter r) = (runs, tt)
   ready_reasons (command.Gunmap h) = (runs, tt)
   ready_reasons (command.Hr h at len) = (runs, tt)

@@ -38,7 +38,7 @@ module _ (st : State) (id : ℕ) (places : HasPlaces st) (within : id < 64) wher
   -- a line behind which its domain goes on
   pub goes_turns : (out : Outcome) (goes : Goes st.machine id out) (b : Book) (fresh : ℕ)
       → OneChanged st (record { machine = out.machine; books = record (put_book id b st.books) { fresh = fresh } }) id
-      (record (seat st id) { own = goes.after; exposed = outline (exposed_at id out.machine.shared.pages); book = b })
+      (record (seat st id) { own = goes.after; guest = but_handles (guest_at id out.machine.shared.tables); exposed = outline (exposed_at id out.machine.shared.pages); book = b })
   goes_turns out goes b fresh =
       let owns = goes.own in
       record {
@@ -49,8 +49,8 @@ module _ (st : State) (id : ℕ) (places : HasPlaces st) (within : id < 64) wher
           exposed = goes.exposed ∙ places.exposed;
           books = length-set st.books.list id b ∙ places.books;
         };
-        others = λ j ne. same_seat _ _ (ap (own_at j) owns ∙ get_or-set_other st.machine.own id j goes.after no_own ne) (ap (life_at j) goes.lives) (goes.tables.each j) (goes.others j ne) (get_or-set_other st.books.list id j b no_book ne);
-        here = same_seat _ _ (ap (own_at id) owns ∙ get_or-set_same st.machine.own id goes.after no_own (omega (arith, places.own))) (ap (life_at id) goes.lives) (goes.tables.each id) refl (get_or-set_same st.books.list id b no_book (omega (arith, places.books)));
+        others = λ j ne. same_seat _ _ (ap (own_at j) owns ∙ get_or-set_other st.machine.own id j goes.after no_own ne) (ap (life_at j) goes.lives) (goes.tables.each j ne) (goes.others j ne) (get_or-set_other st.books.list id j b no_book ne);
+        here = same_seat _ _ (ap (own_at id) owns ∙ get_or-set_same st.machine.own id goes.after no_own (omega (arith, places.own))) (ap (life_at id) goes.lives) refl refl (get_or-set_same st.books.list id b no_book (omega (arith, places.books)));
       }
 
   -- the end of a domain

@@ -1,11 +1,14 @@
 -- What holds of the halves of each live domain, and what lines and births leave of it.
-use Rattle.std.proofs.Common.{◌≡◌, ℕ, zero, suc, ◌+◌, ◌<◌, ◌≤◌, Bool, true, false, cond, List, [], ◌∷◌, length, get_or, set, Option, Some, None, refl, sym, ap, subst, ◌∙◌, arith}
-use Rattle.std.specs.Prelude.{option_map, not, count_by, IfSome, ◌&&◌}
+use Rattle.std.proofs.Common.{◌≡◌, ◌≢◌, inl, inr, ℕ, zero, suc, ◌+◌, ◌<◌, ◌≤◌, Bool, true, false, cond, List, [], ◌∷◌, length, get_or, set, Option, Some, None, refl, sym, ap, subst, ◌∙◌, arith, eq-eqb}
+use Rattle.std.specs.Prelude.{option_map, not, count_by, IfSome, ◌&&◌, ◌==◌}
 use Rattle.std.specs.Option.{is_some, option_map_or}
 use Rattle.std.specs.FinMap as fm
 use Rattle.std.proofs.lemmas.Bool.{ne_eqb}
-use Rattle.std.proofs.lemmas.List.{length-set}
+use Rattle.std.proofs.lemmas.List.{length-set, get_or-set_same, get_or-set_other}
 use Rattle.std.proofs.lemmas.List.Sums.{sum_by-cons}
+use Rattle.neph_grant.specs.declared.entry.GrantEntry.{GrantEntry}
+use Rattle.neph_grant.specs.declared.table.TheConstants.{GRANT_REFS}
+use Rattle.neph_grant.specs.Table.{is_device_grant}
 use Rattle.neph_model.specs.declared.own.Own.{Own}
 use Rattle.neph_model.specs.declared.memory.Mapping.{Mapping}
 use Rattle.neph_model.specs.Memory.{zero_page, page_with_identity, child_network_page}
@@ -14,35 +17,118 @@ use Rattle.neph_model.specs.Own.{page_of}
 use Rattle.neph_model.specs.Births.{none_alone, parent_own, child_own, with_changed, child_exposed}
 use Rattle.neph_model.specs.Books.{goes_shared, new_count}
 use Rattle.neph_runs.specs.Orderly.{Outline, outline}
-use Rattle.neph_runs.proofs.Steps.{Steps, hidden, MapsWithin, insert_shown, insert_count, same_outline}
+use Rattle.neph_runs.proofs.Sums.{same_or}
+use Rattle.neph_runs.proofs.Steps.{Half, Stays, ComesHome, Steps, with_own, hidden, MapsWithin, insert_shown, insert_count, same_outline}
 
--- The halves of a domain: each page is in one of them, the device pages are exposed and the identity page isn't, and each virtual page maps to one.
-pub record AreHalves (o : Own) (e : Outline) : Type 0 where
-  pub hides : hidden o ≡ e.count
-  pub apart : (pfn : ℕ) → pfn < length o.pages → is_some (page_of o pfn) ≡ not (e.has pfn)
-  pub maps : MapsWithin o
-  pub marks : length o.alone ≡ length o.pages
-  pub devices : (pfn : ℕ) → 0 < pfn → pfn < 4 → e.has pfn ≡ true
-  pub identity : e.has 0 ≡ false
+-- The halves of a domain: each page is in one of them, the device pages are exposed and the identity page isn't, and each virtual page maps to one. Each entry of its grants names an exposed page of its own, and no device page but by its first references.
+pub record AreHalves (x : Half) : Type 0 where
+  pub hides : hidden x.own ≡ x.exposed.count
+  pub apart : (pfn : ℕ) → pfn < length x.own.pages → is_some (page_of x.own pfn) ≡ not (x.exposed.has pfn)
+  pub maps : MapsWithin x.own
+  pub marks : length x.own.alone ≡ length x.own.pages
+  pub devices : (pfn : ℕ) → 0 < pfn → pfn < 4 → x.exposed.has pfn ≡ true
+  pub identity : x.exposed.has 0 ≡ false
+  pub named : (r : ℕ) (g : GrantEntry) → fm.get x.grants r ≡ Some g → x.exposed.has g.pfn ≡ true
+  pub inside : (r : ℕ) (g : GrantEntry) → fm.get x.grants r ≡ Some g → g.pfn < length x.own.pages
+  pub low : (r : ℕ) (g : GrantEntry) → fm.get x.grants r ≡ Some g → r < GRANT_REFS
+  pub high : (r : ℕ) (g : GrantEntry) → fm.get x.grants r ≡ Some g → is_device_grant r ≡ false → 4 ≤ g.pfn
+
+-- how many pages are hidden where one that was is shown
+pub home_hidden : (pages : List (Option (List ℕ))) (pfn : ℕ) (bytes : List ℕ) → pfn < length pages → get_or pages pfn None ≡ None
+    → count_by (λ (p : Option (List ℕ)). not (is_some p)) (set pages pfn (Some bytes)) + 1 ≡ count_by (λ (p : Option (List ℕ)). not (is_some p)) pages
+home_hidden [] pfn bytes lt e = absurd (omega arith)
+home_hidden (None ∷ ps) zero bytes lt e =
+    let one : Option (List ℕ) → ℕ = λ (q : Option (List ℕ)). cond (not (is_some q)) 1 0 in
+    omega (arith, sum_by-cons one None ps, sum_by-cons one (Some bytes) ps)
+home_hidden (Some p ∷ ps) zero bytes lt e = absurd cc
+home_hidden (p ∷ ps) (suc pfn) bytes lt e =
+    let one : Option (List ℕ) → ℕ = λ (q : Option (List ℕ)). cond (not (is_some q)) 1 0 in
+    omega (arith, home_hidden ps pfn bytes (omega (arith, lt)) e, sum_by-cons one p ps, sum_by-cons one p (set ps pfn (Some bytes)))
+
+pub hidden_none : (o : Option (List ℕ)) → is_some o ≡ false → o ≡ None
+hidden_none None e = refl
+hidden_none (Some p) e = absurd cc
+
+-- which pages are there, where one more is
+home_there : (pages : List (Option (List ℕ))) (pfn q : ℕ) (bytes : List ℕ) → pfn < length pages → is_some (get_or (set pages pfn (Some bytes)) q None) ≡ cond (q == pfn) true (is_some (get_or pages q None))
+home_there pages pfn q bytes lt = same_or {P = is_some (get_or (set pages pfn (Some bytes)) q None) ≡ cond (q == pfn) true (is_some (get_or pages q None))} q pfn
+    (λ e. rw e (ap is_some (get_or-set_same pages pfn (Some bytes) None lt) ∙ sym (ap (λ b. cond b true (is_some (get_or pages pfn None))) (eq-eqb pfn pfn refl))))
+    (λ ne. ap is_some (get_or-set_other pages pfn q (Some bytes) None ne) ∙ sym (ap (λ b. cond b true (is_some (get_or pages q None))) (ne_eqb q pfn ne)))
 
 -- a line leaves the halves apart
-pub steps_halves : (o n : Own) (e f : Outline) (more : ℕ) (wrote : Option ℕ) → Steps o e n f more wrote → AreHalves o e → AreHalves n f
-steps_halves o n e f more wrote steps h =
-    record {
-      hides = steps.hides ∙ h.hides ∙ sym steps.count;
-      apart = λ pfn lt. steps.halves pfn ∙ h.apart pfn (omega (arith, lt, steps.pages)) ∙ ap not (sym (steps.shown pfn));
-      maps = steps.maps h.maps;
-      marks = steps.marks ∙ h.marks ∙ sym steps.pages;
-      devices = λ pfn low high. steps.shown pfn ∙ h.devices pfn low high;
-      identity = steps.shown 0 ∙ h.identity;
-    }
+module _ (x y : Half) (more : ℕ) (wrote : Option ℕ) (steps : Steps x y more wrote) (h : AreHalves x) where
+  stay_halves : Stays x y → AreHalves y
+  stay_halves s =
+      record {
+        hides = s.hides ∙ h.hides ∙ sym s.count;
+        apart = λ pfn lt. s.halves pfn ∙ h.apart pfn (omega (arith, lt, steps.pages)) ∙ ap not (sym (s.shown pfn));
+        maps = steps.maps h.maps;
+        marks = steps.marks ∙ h.marks ∙ sym steps.pages;
+        devices = λ pfn low high. s.shown pfn ∙ h.devices pfn low high;
+        identity = s.shown 0 ∙ h.identity;
+        named = λ r g at. s.shown g.pfn ∙ h.named r g (s.fewer r g at);
+        inside = λ r g at. let lt = h.inside r g (s.fewer r g at) in omega (arith, lt, steps.pages);
+        low = λ r g at. h.low r g (s.fewer r g at);
+        high = λ r g at. h.high r g (s.fewer r g at);
+      }
+
+  home_halves : (pfn : ℕ) → ComesHome x y pfn → AreHalves y
+  home_halves pfn s =
+      let was : page_of x.own pfn ≡ None = hidden_none (page_of x.own pfn) (h.apart pfn s.inside ∙ ap not s.was) in
+      let far : (q : ℕ) → q ≢ pfn → y.exposed.has q ≡ x.exposed.has q = λ q ne. s.shown q ∙ ap (λ b. cond b false (x.exposed.has q)) (ne_eqb q pfn ne) in
+      let hides = home_hidden x.own.pages pfn s.bytes s.inside was in
+      let mine = ap (λ (l : List (Option (List ℕ))). count_by (λ (p : Option (List ℕ)). not (is_some p)) l) s.pages in
+      let one = h.hides in
+      let count = s.count in
+      record {
+        hides = omega (arith, hides, mine, one, count);
+        apart = λ q lt.
+            ap (λ (l : List (Option (List ℕ))). is_some (get_or l q None)) s.pages ∙ home_there x.own.pages pfn q s.bytes s.inside ∙ turned (q == pfn) (x.exposed.has q) (h.apart q (omega (arith, lt, steps.pages))) ∙ ap not (sym (s.shown q));
+        maps = steps.maps h.maps;
+        marks = steps.marks ∙ h.marks ∙ sym steps.pages;
+        devices = λ q low high. let least = s.high in far q (λ e. absurd (omega arith)) ∙ h.devices q low high;
+        identity = let least = s.high in far 0 (λ e. absurd (omega arith)) ∙ h.identity;
+        named = λ r g at. far g.pfn (s.unnamed r g at) ∙ h.named r g (s.fewer r g at);
+        inside = λ r g at. let lt = h.inside r g (s.fewer r g at) in omega (arith, lt, steps.pages);
+        low = λ r g at. h.low r g (s.fewer r g at);
+        high = λ r g at. h.high r g (s.fewer r g at);
+      }
+    where
+      turned : (b c : Bool) {a : Bool} → a ≡ not c → cond b true a ≡ not (cond b false c)
+      turned true c e = refl
+      turned false c e = e
+
+  pub steps_halves : AreHalves y
+  steps_halves = elim steps.moved [ inl s ↦ stay_halves s | inr s ↦ home_halves s.0 s.1 ]
+
+-- a page that isn't the domain's own behind a line wasn't before
+pub still_hidden : (x y : Half) (more : ℕ) (wrote : Option ℕ) → Steps x y more wrote → (q : ℕ) → q < length x.own.pages → is_some (page_of y.own q) ≡ false → is_some (page_of x.own q) ≡ false
+still_hidden x y more wrote steps q lt none = elim steps.moved [
+  | inl s ↦ sym (s.halves q) ∙ none
+  | inr s ↦ by (q == s.0) (sym (ap (λ (l : List (Option (List ℕ))). is_some (get_or l q None)) s.1.pages ∙ home_there x.own.pages s.0 q s.1.bytes s.1.inside) ∙ none)
+] where
+  by : (b : Bool) {a : Bool} → cond b true a ≡ false → a ≡ false
+  by true e = absurd cc
+  by false e = e
 
 none_size : (alone : List Bool) → length (none_alone alone) ≡ length alone
 none_size [] = refl
 none_size (a ∷ rest) = ap suc (none_size rest)
 
-pub parent_halves : (o : Own) (e : Outline) → AreHalves o e → AreHalves (parent_own o) e
-parent_halves o e h = record { hides = h.hides; apart = h.apart; maps = h.maps; marks = none_size o.alone ∙ h.marks; devices = h.devices; identity = h.identity }
+pub parent_halves : (x : Half) → AreHalves x → AreHalves (with_own x (parent_own x.own))
+parent_halves x h =
+    record {
+      hides = h.hides;
+      apart = h.apart;
+      maps = h.maps;
+      marks = none_size x.own.alone ∙ h.marks;
+      devices = h.devices;
+      identity = h.identity;
+      named = h.named;
+      inside = h.inside;
+      low = h.low;
+      high = h.high;
+    }
 
 -- another page in the place of the first, where there is one
 pub first_some : (pages : List (Option (List ℕ))) (f : List ℕ → List ℕ) (at : ℕ) → is_some (get_or (set pages 0 (option_map f (get_or pages 0 None))) at None) ≡ is_some (get_or pages at None)
@@ -85,8 +171,9 @@ module _ (e : Exposed) where
 pub child_outline : (e : Exposed) → outline (child_exposed e) ≡ outline e
 child_outline e = same_outline e (child_exposed e) (child_shown e) (child_count e)
 
-pub child_halves : (child id : ℕ) (o : Own) (e : Outline) → AreHalves o e → AreHalves (child_own child id o) e
-child_halves child id o e h =
+pub child_halves : (child id : ℕ) (x : Half) → AreHalves x → AreHalves (with_own x (child_own child id x.own))
+child_halves child id x h =
+    let o = x.own in
     let f : List ℕ → List ℕ = λ page. page_with_identity page child id (length o.pages) in
     let lengths = length-set o.pages 0 (option_map f (page_of o 0)) in
     record {
@@ -96,6 +183,10 @@ child_halves child id o e h =
       marks = none_size o.alone ∙ h.marks ∙ sym lengths;
       devices = λ pfn low high. h.devices pfn low high;
       identity = h.identity;
+      named = h.named;
+      inside = λ r g at. let lt = h.inside r g at in omega (arith, lt, lengths);
+      low = h.low;
+      high = h.high;
     }
 
 -- how many new colours a child needs for these pages, which aren't the first

@@ -7,11 +7,12 @@ use Rattle.std.specs.Cmp.{nat_cmp_total}
 use Rattle.std.specs.List.{sum_by, range_with_len}
 use Rattle.std.specs.FinMap as fm
 use Rattle.std.specs.FinMap.{get-insert, get-empty, len-insert, len-empty}
-use Rattle.std.proofs.lemmas.Bool.{false≢true}
+use Rattle.std.proofs.lemmas.Bool.{false≢true, ltb-false}
 use Rattle.std.proofs.lemmas.List.{length-replicate, get_or-replicate}
 use Rattle.std.proofs.lemmas.List.Elements.{All-head, All-tail}
 use Rattle.std.proofs.lemmas.List.FromFn.{length-range_with_len}
 use Rattle.std.proofs.lemmas.List.Sums.{sum_by-cons, count_by-le-length}
+use Rattle.neph_grant.specs.Table.{device_grants}
 use Rattle.neph_model.specs.declared.script.Script.{Script}
 use Rattle.neph_model.specs.declared.script.Start.{Start}
 use Rattle.neph_model.specs.declared.memory.Mapping.{Mapping}
@@ -20,9 +21,10 @@ use Rattle.neph_model.specs.declared.book.Book.{Book}
 use Rattle.neph_model.specs.declared.book.Stage.TheVariants.{Ready}
 use Rattle.neph_model.specs.Memory.{zero_page}
 use Rattle.neph_model.specs.WellFormed.{IsWellFormed, IsWellFormedStart, frames_of_starts}
-use Rattle.neph_model.specs.Machine.{Exposed, no_own, size_of}
-use Rattle.neph_model.specs.Start.{started_512s, start_own, start_life, start_exposed, start_vmap, start_mode, start_pages, identity_page, of_starts}
+use Rattle.neph_model.specs.Machine.{Exposed, no_own, no_guest, size_of}
+use Rattle.neph_model.specs.Start.{started_512s, start_own, start_life, start_guest, start_exposed, start_vmap, start_mode, start_pages, identity_page, of_starts}
 use Rattle.neph_model.specs.Books.{no_book, pages_in, book_of, start_books, start_state, page_count, colours_used, pages_of}
+use Rattle.neph_laws.proofs.GrantRows.{device_granted}
 use Rattle.neph_runs.specs.Orderly.{seat, outline}
 use Rattle.neph_runs.specs.Work.{all_ids}
 use Rattle.neph_runs.proofs.Sums.{sum_le}
@@ -80,7 +82,7 @@ maps_below (suc n) v = within_insert (start_vmap n) n (record { pfn = n; mode = 
   weaker None h = tt
   weaker (Some to) h = omega arith
 
-start_halves : (n programs : ℕ) (t : Start) → IsWellFormedStart programs t → AreHalves (start_own n t) (outline start_exposed)
+start_halves : (n programs : ℕ) (t : Start) → IsWellFormedStart programs t → AreHalves (record { own = start_own n t; exposed = outline start_exposed; grants = device_grants })
 start_halves n programs t well =
     let low = well.pages_low in
     let size : length (start_pages n t.pages) ≡ t.pages = omega (arith, length-replicate (t.pages - 4) (Some zero_page)) in
@@ -91,6 +93,10 @@ start_halves n programs t well =
       marks = length-replicate t.pages true ∙ sym size;
       devices = λ pfn low high. ap is_some (get_three pfn) ∙ device pfn low high;
       identity = ap is_some (get_three 0);
+      named = λ r g at. let d = device_granted r g at in ap is_some (get_three g.pfn) ∙ device g.pfn (omega (arith, d.1)) (omega (arith, d.0, d.1));
+      inside = λ r g at. let d = device_granted r g at in omega (arith, d.0, d.1, low, size);
+      low = λ r g at. let d = device_granted r g at in omega (arith, d.0);
+      high = λ r g at far. let d = device_granted r g at in absurd (omega (arith, d.0, ltb-false r 3 far));
     }
   where
     device : (pfn : ℕ) → 0 < pfn → pfn < 4 → is_some (three pfn) ≡ true
@@ -112,7 +118,11 @@ start_halves n programs t well =
         ap is_some (get_or-replicate (t.pages - 4) j (Some zero_page) None (omega arith)) ∙ ap (λ x. not (is_some x)) (sym none)
 
 halves_at : (programs n k : ℕ) (ts : List Start) → All (IsWellFormedStart programs) ts → (j : ℕ) → is_some (get_or (of_starts (λ i t. Some (start_life i t)) n ts ++ replicate k None) j None) ≡ true
-    → AreHalves (get_or (of_starts start_own n ts ++ replicate k no_own) j no_own) (outline (get_or (of_starts {X = Exposed} (λ i t. start_exposed) n ts ++ replicate k fm.empty) j fm.empty))
+    → AreHalves (record {
+      own = get_or (of_starts start_own n ts ++ replicate k no_own) j no_own;
+      exposed = outline (get_or (of_starts {X = Exposed} (λ i t. start_exposed) n ts ++ replicate k fm.empty) j fm.empty);
+      grants = (get_or (of_starts {X = Guest} (λ i t. start_guest) n ts ++ replicate k no_guest) j no_guest).grants;
+    })
 halves_at programs n zero [] all j live = absurd (false≢true live)
 halves_at programs n (suc k) [] all zero live = absurd (false≢true live)
 halves_at programs n (suc k) [] all (suc j) live = halves_at programs n k [] all j live

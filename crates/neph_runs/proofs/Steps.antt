@@ -1,5 +1,5 @@
 -- What a line leaves of the pages, the map and the leaf tables of its domain.
-use Rattle.std.proofs.Common.{◌≡◌, ℕ, zero, suc, ◌+◌, ◌/◌, ◌<◌, Bool, true, false, cond, ◌⊎◌, inl, inr, List, [], ◌∷◌, length, get_or, set, Option, Some, None, refl, sym, ap, subst, ◌∙◌, arith}
+use Rattle.std.proofs.Common.{◌≡◌, ◌≢◌, ℕ, zero, suc, ◌+◌, ◌/◌, ◌<◌, ◌≤◌, Bool, true, false, cond, ◌⊎◌, inl, inr, List, [], ◌∷◌, length, get_or, set, Option, Some, None, refl, sym, ap, subst, ◌∙◌, arith}
 use Rattle.std.specs.Prelude.{not, count_by, IfSome, ◌==◌, nat_lt}
 use Rattle.std.specs.Option.{is_some}
 use Rattle.std.specs.Ordering.{nat_cmp, eq_by_cmp, is_eq}
@@ -11,14 +11,16 @@ use Rattle.std.proofs.lemmas.Bool.{false≢true, ne_eqb}
 use Rattle.std.proofs.lemmas.List.{length-set, length-append, get_or-set_other}
 use Rattle.std.proofs.lemmas.List.Sums.{sum_by-cons}
 use Rattle.neph_base.specs.declared.command.Mode.{Mode}
+use Rattle.neph_grant.specs.declared.entry.GrantEntry.{GrantEntry}
+use Rattle.neph_grant.specs.Table.{Grants}
 use Rattle.neph_model.specs.declared.own.Own.{Own}
 use Rattle.neph_model.specs.declared.memory.Mapping.{Mapping}
 use Rattle.neph_model.specs.Memory.{page_with_bytes}
-use Rattle.neph_model.specs.Machine.{Exposed, exposed_at}
+use Rattle.neph_model.specs.Machine.{Exposed, Machine, own_at, guest_at, exposed_at}
 use Rattle.neph_model.specs.Trap.{is_exposed, exposed_bytes, with_exposed_bytes}
-use Rattle.neph_model.specs.Own.{page_of, with_alone, with_bytes, with_mapping, with_leaf}
+use Rattle.neph_model.specs.Own.{page_of, with_page, with_alone, with_bytes, with_mapping, with_leaf}
 use Rattle.neph_laws.proofs.HandleRows.{put_as}
-use Rattle.neph_runs.specs.Orderly.{Outline, outline}
+use Rattle.neph_runs.specs.Orderly.{Outline, Seat, outline}
 use Rattle.neph_runs.proofs.Sums.{same_or}
 
 -- how many pages of an own half are exposed
@@ -29,26 +31,74 @@ hidden o = count_by (λ (p : Option (List ℕ)). not (is_some p)) o.pages
 abbrev pub MapsWithin : Own → Type 0
 MapsWithin o = (vpn : ℕ) → IfSome (fm.get o.vmap vpn) (λ (to : Mapping). to.pfn < length o.pages)
 
--- What a line leaves of an own half and its exposed pages: the same pages in each half, so many more leaf tables, and no page newly known to be alone but an exposed one or the one that was written.
-pub record Steps (o : Own) (e : Outline) (n : Own) (f : Outline) (more : ℕ) (wrote : Option ℕ) : Type 0 where
-  pub pages : length n.pages ≡ length o.pages
-  pub halves : (pfn : ℕ) → is_some (page_of n pfn) ≡ is_some (page_of o pfn)
-  pub hides : hidden n ≡ hidden o
-  pub shown : (pfn : ℕ) → f.has pfn ≡ e.has pfn
-  pub count : f.count ≡ e.count
-  pub maps : MapsWithin o → MapsWithin n
-  pub leaves : length n.leaves ≡ length o.leaves + more
-  pub marks : length n.alone ≡ length o.alone
-  pub alone : (pfn : ℕ) → get_or n.alone pfn false ≡ true → ((get_or o.alone pfn false ≡ true) ⊎ (e.has pfn ≡ true)) ⊎ (wrote ≡ Some pfn)
+-- a domain's own half, which of its pages are exposed, and its grants
+pub record Half : Type 0 where
+  pub own : Own
+  pub exposed : Outline
+  pub grants : Grants
+
+abbrev pub half_of : Seat → Half
+half_of x = record { own = x.own; exposed = x.exposed; grants = x.guest.grants }
+
+abbrev pub half_at : Machine → ℕ → Half
+half_at m id = record {
+  own = own_at id m.own;
+  exposed = outline (exposed_at id m.shared.pages);
+  grants = (guest_at id m.shared.tables).grants;
+}
+
+-- each of these entries is one of those
+abbrev pub Fewer : Grants → Grants → Type 0
+Fewer old new = (r : ℕ) (g : GrantEntry) → fm.get new r ≡ Some g → fm.get old r ≡ Some g
+
+-- the same pages are in each half, and no entry is new
+pub record Stays (x y : Half) : Type 0 where
+  pub halves : (pfn : ℕ) → is_some (page_of y.own pfn) ≡ is_some (page_of x.own pfn)
+  pub hides : hidden y.own ≡ hidden x.own
+  pub shown : (pfn : ℕ) → y.exposed.has pfn ≡ x.exposed.has pfn
+  pub count : y.exposed.count ≡ x.exposed.count
+  pub fewer : Fewer x.grants y.grants
+
+-- This exposed page is the domain's own again. None of the entries names it.
+pub record ComesHome (x y : Half) (pfn : ℕ) : Type 0 where
+  pub bytes : List ℕ
+  pub pages : y.own.pages ≡ set x.own.pages pfn (Some bytes)
+  pub high : 4 ≤ pfn
+  pub inside : pfn < length x.own.pages
+  pub was : x.exposed.has pfn ≡ true
+  pub shown : (q : ℕ) → y.exposed.has q ≡ cond (q == pfn) false (x.exposed.has q)
+  pub count : y.exposed.count + 1 ≡ x.exposed.count
+  pub fewer : Fewer x.grants y.grants
+  pub unnamed : (r : ℕ) (g : GrantEntry) → fm.get y.grants r ≡ Some g → g.pfn ≢ pfn
+
+-- What a line leaves of the halves of its domain: the same pages in each, but for one that comes home, so many more leaf tables, and no page newly known to be alone but an exposed one or the one that was written.
+pub record Steps (x y : Half) (more : ℕ) (wrote : Option ℕ) : Type 0 where
+  pub pages : length y.own.pages ≡ length x.own.pages
+  pub moved : Stays x y ⊎ ((pfn : ℕ) × ComesHome x y pfn)
+  pub maps : MapsWithin x.own → MapsWithin y.own
+  pub leaves : length y.own.leaves ≡ length x.own.leaves + more
+  pub marks : length y.own.alone ≡ length x.own.alone
+  pub alone : (pfn : ℕ) → get_or y.own.alone pfn false ≡ true → ((get_or x.own.alone pfn false ≡ true) ⊎ (x.exposed.has pfn ≡ true)) ⊎ (wrote ≡ Some pfn)
+
+abbrev pub with_own : Half → Own → Half
+with_own x o = record x { own = o }
+
+nothing_moved : (x : Half) (n : Own) → n.pages ≡ x.own.pages → Stays x (with_own x n)
+nothing_moved x n same =
+    record { halves = λ pfn. ap (λ (l : List (Option (List ℕ))). is_some (get_or l pfn None)) same; hides = ap (λ (l : List (Option (List ℕ))). count_by (λ (p : Option (List ℕ)). not (is_some p)) l) same; shown = λ pfn. refl; count = refl; fewer = λ r g at. at }
 
 -- nothing but line and marks changed
-pub steps_same : (o : Own) (e : Outline) (line : ℕ) (refused : Bool) (wrote : Option ℕ) → Steps o e (record o { line = line; refused = refused }) e 0 wrote
-steps_same o e line refused wrote =
-    record { pages = refl; halves = λ pfn. refl; hides = refl; shown = λ pfn. refl; count = refl; maps = λ h. h; leaves = omega arith; marks = refl; alone = λ pfn h. inl (inl h) }
+pub steps_same : (x : Half) (line : ℕ) (refused : Bool) (wrote : Option ℕ) → Steps x (with_own x (record x.own { line = line; refused = refused })) 0 wrote
+steps_same x line refused wrote =
+    record { pages = refl; moved = inl (nothing_moved x (record x.own { line = line; refused = refused }) refl); maps = λ h. h; leaves = omega arith; marks = refl; alone = λ pfn h. inl (inl h) }
 
-pub steps_line : (o : Own) (e : Outline) (n : Own) (f : Outline) (more : ℕ) (wrote : Option ℕ) (line : ℕ) (refused : Bool) → Steps o e n f more wrote → Steps o e (record n { line = line; refused = refused }) f more wrote
-steps_line o e n f more wrote line refused h =
-    record { pages = h.pages; halves = h.halves; hides = h.hides; shown = h.shown; count = h.count; maps = h.maps; leaves = h.leaves; marks = h.marks; alone = h.alone }
+home_line : (x y : Half) (pfn line : ℕ) (refused : Bool) → ComesHome x y pfn → ComesHome x (with_own y (record y.own { line = line; refused = refused })) pfn
+home_line x y pfn line refused h =
+    record { bytes = h.bytes; pages = h.pages; high = h.high; inside = h.inside; was = h.was; shown = h.shown; count = h.count; fewer = h.fewer; unnamed = h.unnamed }
+
+pub steps_line : (x y : Half) (more : ℕ) (wrote : Option ℕ) (line : ℕ) (refused : Bool) → Steps x y more wrote → Steps x (with_own y (record y.own { line = line; refused = refused })) more wrote
+steps_line x y more wrote line refused h =
+    record { pages = h.pages; moved = elim h.moved [ inl s ↦ inl (record { halves = s.halves; hides = s.hides; shown = s.shown; count = s.count; fewer = s.fewer }) | inr g ↦ inr (g.0, home_line x y g.0 line refused g.1) ]; maps = h.maps; leaves = h.leaves; marks = h.marks; alone = h.alone }
 
 -- a page of a list in the place of another
 some_set : (pages : List (Option (List ℕ))) (pfn : ℕ) (page : List ℕ) (at : ℕ) → is_some (get_or pages pfn None) ≡ true → is_some (get_or (set pages pfn (Some page)) at None) ≡ is_some (get_or pages at None)
@@ -73,16 +123,14 @@ alone_set : (alone : List Bool) (pfn at : ℕ) → get_or (set alone pfn true) a
 alone_set alone pfn at h = same_or at pfn (λ e. inr (ap Some (sym e))) (λ ne. inl (sym (get_or-set_other alone pfn at true false ne) ∙ h))
 
 -- a write to a page of its own
-pub steps_bytes : (o : Own) (e : Outline) (pfn : ℕ) (page : List ℕ) (at : ℕ) (bytes : List ℕ) → page_of o pfn ≡ Some page → Steps o e (with_bytes o pfn page at bytes) e 0 (Some pfn)
-steps_bytes o e pfn page at bytes is =
+pub steps_bytes : (x : Half) (pfn : ℕ) (page : List ℕ) (at : ℕ) (bytes : List ℕ) → page_of x.own pfn ≡ Some page → Steps x (with_own x (with_bytes x.own pfn page at bytes)) 0 (Some pfn)
+steps_bytes x pfn page at bytes is =
+    let o = x.own in
     let some : is_some (page_of o pfn) ≡ true = ap is_some is in
     let lengths = length-set o.pages pfn _ in
     record {
       pages = lengths;
-      halves = λ q. some_set o.pages pfn _ q some;
-      hides = hidden_set o.pages pfn _ some;
-      shown = λ q. refl;
-      count = refl;
+      moved = inl (record { halves = λ q. some_set o.pages pfn _ q some; hides = hidden_set o.pages pfn _ some; shown = λ q. refl; count = refl; fewer = λ r g at. at });
       maps = λ h vpn. subst (λ k. IfSome (fm.get o.vmap vpn) (λ (to : Mapping). to.pfn < k)) (sym lengths) (h vpn);
       leaves = omega arith;
       marks = length-set o.alone pfn true;
@@ -90,18 +138,33 @@ steps_bytes o e pfn page at bytes is =
     }
 
 -- an exposed page that was written
-pub steps_alone : (o : Own) (e f : Outline) (pfn : ℕ) (wrote : Option ℕ) → e.has pfn ≡ true → ((q : ℕ) → f.has q ≡ e.has q) → f.count ≡ e.count → Steps o e (with_alone o pfn) f 0 wrote
-steps_alone o e f pfn wrote some shown count =
+pub steps_alone : (x : Half) (f : Outline) (pfn : ℕ) (wrote : Option ℕ) → x.exposed.has pfn ≡ true → ((q : ℕ) → f.has q ≡ x.exposed.has q) → f.count ≡ x.exposed.count → Steps x (record x { own = with_alone x.own pfn; exposed = f }) 0 wrote
+steps_alone x f pfn wrote some shown count =
     record {
       pages = refl;
-      halves = λ q. refl;
-      hides = refl;
-      shown = shown;
-      count = count;
+      moved = inl (record { halves = λ q. refl; hides = refl; shown = shown; count = count; fewer = λ r g at. at });
       maps = λ h. h;
       leaves = omega arith;
-      marks = length-set o.alone pfn true;
-      alone = λ q h. elim (alone_set o.alone pfn q h) [ inl k ↦ inl (inl k) | inr k ↦ inl (inr (ap (λ x. e.has x) (sym (same_key k)) ∙ some)) ];
+      marks = length-set x.own.alone pfn true;
+      alone = λ q h. elim (alone_set x.own.alone pfn q h) [ inl k ↦ inl (inl k) | inr k ↦ inl (inr (ap (λ p. x.exposed.has p) (sym (same_key k)) ∙ some)) ];
+    }
+
+-- fewer entries
+pub steps_ended : (x : Half) (left : Grants) → Fewer x.grants left → Steps x (record x { grants = left }) 0 None
+steps_ended x left fewer =
+    record { pages = refl; moved = inl (record { halves = λ q. refl; hides = refl; shown = λ q. refl; count = refl; fewer = fewer }); maps = λ h. h; leaves = omega arith; marks = refl; alone = λ q h. inl (inl h) }
+
+-- fewer entries, and a page that comes home
+pub steps_home : (x : Half) (f : Outline) (left : Grants) (pfn : ℕ) (bytes : List ℕ) → ComesHome x (record { own = with_page x.own pfn (Some bytes); exposed = f; grants = left }) pfn → Steps x (record { own = with_page x.own pfn (Some bytes); exposed = f; grants = left }) 0 None
+steps_home x f left pfn bytes home =
+    let lengths = length-set x.own.pages pfn (Some bytes) in
+    record {
+      pages = lengths;
+      moved = inr (pfn, home);
+      maps = λ h vpn. subst (λ k. IfSome (fm.get x.own.vmap vpn) (λ (to : Mapping). to.pfn < k)) (sym lengths) (h vpn);
+      leaves = omega arith;
+      marks = refl;
+      alone = λ q h. inl (inl h);
     }
 
 -- two keys are the same, or told apart
@@ -146,34 +209,28 @@ within_remove m vpn n h v = subst (λ x. IfSome x (λ (x : Mapping). x.pfn < n))
   by false = h v
 
 -- a mapping, with a new leaf table or without
-pub steps_mapping : (o : Own) (e : Outline) (vpn pfn : ℕ) (mode : Mode) → pfn < length o.pages → Steps o e (with_mapping o vpn pfn mode) e 0 None
-steps_mapping o e vpn pfn mode lt =
+pub steps_mapping : (x : Half) (vpn pfn : ℕ) (mode : Mode) → pfn < length x.own.pages → Steps x (with_own x (with_mapping x.own vpn pfn mode)) 0 None
+steps_mapping x vpn pfn mode lt =
     record {
       pages = refl;
-      halves = λ q. refl;
-      hides = refl;
-      shown = λ q. refl;
-      count = refl;
-      maps = λ h. within_insert o.vmap vpn (record { pfn = pfn; mode = mode }) (length o.pages) lt h;
+      moved = inl (nothing_moved x (with_mapping x.own vpn pfn mode) refl);
+      maps = λ h. within_insert x.own.vmap vpn (record { pfn = pfn; mode = mode }) (length x.own.pages) lt h;
       leaves = omega arith;
       marks = refl;
       alone = λ q h. inl (inl h);
     }
 
-pub steps_leaf : (o : Own) (e : Outline) (vpn pfn : ℕ) (mode : Mode) → pfn < length o.pages → Steps o e (with_leaf (with_mapping o vpn pfn mode) vpn) e 1 None
-steps_leaf o e vpn pfn mode lt =
-    let h = steps_mapping o e vpn pfn mode lt in
-    record { pages = refl; halves = λ q. refl; hides = refl; shown = λ q. refl; count = refl; maps = h.maps; leaves = length-append o.leaves (vpn / 512 ∷ []); marks = refl; alone = λ q h. inl (inl h) }
+pub steps_leaf : (x : Half) (vpn pfn : ℕ) (mode : Mode) → pfn < length x.own.pages → Steps x (with_own x (with_leaf (with_mapping x.own vpn pfn mode) vpn)) 1 None
+steps_leaf x vpn pfn mode lt =
+    let h = steps_mapping x vpn pfn mode lt in
+    record { pages = refl; moved = inl (nothing_moved x (with_leaf (with_mapping x.own vpn pfn mode) vpn) refl); maps = h.maps; leaves = length-append x.own.leaves (vpn / 512 ∷ []); marks = refl; alone = λ q h. inl (inl h) }
 
-pub steps_unmap : (o : Own) (e : Outline) (vpn : ℕ) → Steps o e (record o { vmap = fm.remove o.vmap vpn }) e 0 None
-steps_unmap o e vpn =
+pub steps_unmap : (x : Half) (vpn : ℕ) → Steps x (with_own x (record x.own { vmap = fm.remove x.own.vmap vpn })) 0 None
+steps_unmap x vpn =
     record {
       pages = refl;
-      halves = λ q. refl;
-      hides = refl;
-      shown = λ q. refl;
-      count = refl;
-      maps = λ h. within_remove o.vmap vpn (length o.pages) h;
+      moved = inl (nothing_moved x (record x.own { vmap = fm.remove x.own.vmap vpn }) refl);
+      maps = λ h. within_remove x.own.vmap vpn (length x.own.pages) h;
       leaves = omega arith;
       marks = refl;
       alone = λ q h. inl (inl h);

@@ -24,7 +24,7 @@ use Rattle.neph_model.specs.declared.told.Told.{Told}
 use Rattle.neph_model.specs.declared.told.Told.TheVariants.{Enough, Short, Free}
 use Rattle.neph_model.specs.Machine.{Machine, own_at, guest_at, life_at, exposed_at, program_run}
 use Rattle.neph_model.specs.Own.{LocalResult, page_of, mapping_at, with_alone, with_bytes, with_mapping, with_leaf, is_bad_pfn, has_leaf, w_step, r_step, leaf_step, map_step, unmap_step, settle, jump_step}
-use Rattle.neph_model.specs.Trap.{CallResult, answers, is_exposed, with_exposed_bytes, w_call, r_call, trap, need, lacks_frames, clone_refusal, clone_call}
+use Rattle.neph_model.specs.Trap.{CallResult, answers, is_exposed, with_exposed_bytes, w_call, r_call, trap, ungrant_call, need, lacks_frames, clone_refusal, clone_call}
 use Rattle.neph_model.specs.Programs.{label_line_at}
 use Rattle.neph_model.specs.Step.{Outcome}
 use Rattle.neph_model.specs.Books.{Books}
@@ -36,6 +36,8 @@ use Rattle.neph_runs.proofs.Says.{Says}
 use Rattle.neph_model.specs.Lent.{lent}
 use Rattle.neph_laws.proofs.HandleRows.{IsOfHandles, IsPlainWhy, handle_row}
 use Rattle.neph_runs.specs.Orderly.{outline}
+use Rattle.neph_laws.proofs.GrantRows.{ungrant_row}
+use Rattle.neph_runs.proofs.Steps.{half_at}
 use Rattle.neph_runs.proofs.Sound.{AreHalves}
 use Rattle.neph_runs.proofs.Rooms.{clone_says}
 
@@ -49,7 +51,7 @@ not_short e = cc
 not_free : (f : ℕ) → Free f ≡ Enough → ⊥
 not_free f e = cc
 
-module _ (m : Machine) (id : ℕ) (halves : AreHalves (own_at id m.own) (outline (exposed_at id m.shared.pages))) where
+module _ (m : Machine) (id : ℕ) (halves : AreHalves (half_at m id)) where
   abbrev o : Own
   o = own_at id m.own
 
@@ -258,6 +260,15 @@ module _ (m : Machine) (id : ℕ) (halves : AreHalves (own_at id m.own) (outline
       handle_row m.shared id (guest_at id m.shared.tables) (λ x. Counted n o c (called m id t (λ r. o) x).reply) (λ why plain. plain_counts n c (reply.Refused why) is plain) (λ bytes. plain_counts n c (reply.Bytes bytes) is tt)
       (λ hs h. plain_counts n c (reply.Number h) is tt) (λ hs. plain_counts n c reply.Done is tt) (λ granter pfn at bytes there. plain_counts n c reply.Done is tt) (lent o c) t c is
 
+  refused_counts : (n r : ℕ) (why : Refusal) → IsPlainWhy why → Counted n o (command.Ungrant r) (reply.Refused why)
+  refused_counts n r NoFrame p = absurd (not_short p)
+  refused_counts n r (Frames need free) p = absurd (not_free free p)
+  refused_counts n r _ p = (tt, refl)
+
+  ended_counts : (n : ℕ) (t : Told) (r : ℕ) → Counted n o (command.Ungrant r) (called m id t (λ q. o) (ungrant_call m.shared id (guest_at id m.shared.tables) r)).reply
+  ended_counts n t r =
+      ungrant_row m.shared id (guest_at id m.shared.tables) (λ x. Counted n o (command.Ungrant r) (called m id t (λ q. o) x).reply) (λ why plain. refused_counts n r why plain) (λ q e may. (tt, refl)) (λ q e may free. (tt, refl)) r
+
   pub line_tells : (s : Script) (n : ℕ) (bs : Books) (b : Book) (c : Command) (t : Told) (sp : Spends) → Says n bs o b c t sp → ((addr pfn : ℕ) → page_to_copy bs o b (mapping_at o addr) ≡ Some pfn → may_be_shared o (mapping_at o addr) ≡ true) → Tells n c (λ t. does m id t s c) t
   line_tells s n bs b (command.W addr bytes) t sp says may = w_tells n addr bytes bs b t (mapping_at o addr) refl (w_says n addr bytes bs b t sp says) (λ pfn e. may addr pfn e)
   line_tells s n bs b (command.R addr len) t sp says may = (refl, r_tells n addr len t (mapping_at o addr))
@@ -269,6 +280,7 @@ module _ (m : Machine) (id : ℕ) (halves : AreHalves (own_at id m.own) (outline
   line_tells s n bs b command.Exit t sp says may = (refl, (tt, refl))
   line_tells s n bs b command.Free t sp says may = free_tells n t s (free_says n bs b t sp says)
   line_tells s n bs b command.Clone t sp says may = clone_tells n t (clone_says n bs o b t sp says).1
+  line_tells s n bs b (command.Ungrant r) t sp says may = (refl, ended_counts n t r)
   line_tells s n bs b (command.Gmap granter r) t sp says may = (refl, handles_count n (command.Gmap granter r) t tt)
   line_tells s n bs b (command.Gunmap h) t sp says may = (refl, handles_count n (command.Gunmap h) t tt)
   line_tells s n bs b (command.Hr h at len) t sp says may = (refl, handles_count n (command.Hr h at len) t tt)
