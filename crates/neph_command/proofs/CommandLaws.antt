@@ -69,6 +69,7 @@ made verb.JFail (op.Label a ∷ []) e = record { said = said.JFail a; is = refl;
 made verb.Exit [] e = record { said = said.Whole command.Exit; is = refl; parts_are = refl }
 made verb.Free [] e = record { said = said.Whole command.Free; is = refl; parts_are = refl }
 made verb.Clone [] e = record { said = said.Whole command.Clone; is = refl; parts_are = refl }
+made verb.Ungrant (op.Ref a ∷ []) e = record { said = said.Whole (command.Ungrant a); is = refl; parts_are = refl }
 made verb.Gmap (op.Dom a ∷ op.Ref b ∷ []) e = record { said = said.Whole (command.Gmap a b); is = refl; parts_are = refl }
 made verb.Gunmap (op.Handle a ∷ []) e = record { said = said.Whole (command.Gunmap a); is = refl; parts_are = refl }
 made verb.Hr (op.Handle a ∷ op.Offset b ∷ op.Len c ∷ []) e = record { said = said.Whole (command.Hr a b c); is = refl; parts_are = refl }

@@ -39,6 +39,7 @@ command_of verb.JFail (a ∷ []) = label_in a >>- λ label. Some (said.JFail lab
 command_of verb.Exit [] = Some (said.Whole command.Exit)
 command_of verb.Free [] = Some (said.Whole command.Free)
 command_of verb.Clone [] = Some (said.Whole command.Clone)
+command_of verb.Ungrant (a ∷ []) = ref_in a >>- λ r. Some (said.Whole (command.Ungrant r))
 command_of verb.Gmap (a ∷ b ∷ []) =
     dom_in a >>- λ granter. ref_in b >>- λ r. Some (said.Whole (command.Gmap granter r))
 command_of verb.Gunmap (a ∷ []) = handle_in a >>- λ h. Some (said.Whole (command.Gunmap h))
@@ -71,6 +72,7 @@ parts_in labels (command.JFail label) = parts verb.JFail (op.Label (label_name l
 parts_in labels command.Exit = parts verb.Exit []
 parts_in labels command.Free = parts verb.Free []
 parts_in labels command.Clone = parts verb.Clone []
+parts_in labels (command.Ungrant r) = parts verb.Ungrant (op.Ref r ∷ [])
 parts_in labels (command.Gmap granter r) = parts verb.Gmap (op.Dom granter ∷ op.Ref r ∷ [])
 parts_in labels (command.Gunmap h) = parts verb.Gunmap (op.Handle h ∷ [])
 parts_in labels (command.Hr h offset len) =

@@ -8,7 +8,7 @@ use Rattle.neph_command.specs.declared.verb.Verb.TheVariants as verb
 
 abbrev pub verbs : List Verb
 verbs = verb.W ∷ verb.R ∷ verb.Map ∷ verb.Unmap ∷ verb.Jump ∷ verb.JChild ∷ verb.JFail
-    ∷ verb.Exit ∷ verb.Free ∷ verb.Clone ∷ verb.Gmap ∷ verb.Gunmap ∷ verb.Hr ∷ verb.Hw ∷ []
+    ∷ verb.Exit ∷ verb.Free ∷ verb.Clone ∷ verb.Ungrant ∷ verb.Gmap ∷ verb.Gunmap ∷ verb.Hr ∷ verb.Hw ∷ []
 
 abbrev pub keyword : Verb → List ℕ
 keyword verb.W = codes "w"
@@ -21,6 +21,7 @@ keyword verb.JFail = codes "jfail"
 keyword verb.Exit = codes "exit"
 keyword verb.Free = codes "free"
 keyword verb.Clone = codes "clone"
+keyword verb.Ungrant = codes "ungrant"
 keyword verb.Gmap = codes "gmap"
 keyword verb.Gunmap = codes "gunmap"
 keyword verb.Hr = codes "hr"
@@ -37,6 +38,7 @@ kinds_of verb.JFail = kind.label ∷ []
 kinds_of verb.Exit = []
 kinds_of verb.Free = []
 kinds_of verb.Clone = []
+kinds_of verb.Ungrant = kind.reference ∷ []
 kinds_of verb.Gmap = kind.dom ∷ kind.reference ∷ []
 kinds_of verb.Gunmap = kind.handle ∷ []
 kinds_of verb.Hr = kind.handle ∷ kind.offset ∷ kind.len ∷ []

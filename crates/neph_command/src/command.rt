@@ -57,6 +57,9 @@ fn said_alone(verb: Verb, words: &[&[u8]]) -> Result<Said, Why>
         (Verb::Exit, []) => Ok(Said::Whole(Command::Exit)),
         (Verb::Free, []) => Ok(Said::Whole(Command::Free)),
         (Verb::Clone, []) => Ok(Said::Whole(Command::Clone)),
+        (Verb::Ungrant, [a]) => Ok(Said::Whole(Command::Ungrant {
+            reference: reference(a)?,
+        })),
         (Verb::Gmap, [a, b]) => Ok(Said::Whole(Command::Gmap {
             granter: dom(a)?,
             reference: reference(b)?,

@@ -35,6 +35,9 @@ pub fn put_command(text: &mut Vec<u8>, labels: &[Label], command: &Command) -> R
         Command::Exit => put_words(text, Verb::Exit, &[]),
         Command::Free => put_words(text, Verb::Free, &[]),
         Command::Clone => put_words(text, Verb::Clone, &[]),
+        Command::Ungrant { reference } => {
+            put_words(text, Verb::Ungrant, &[Operand::Ref(reference)])
+        }
         Command::Gmap { granter, reference } => put_words(
             text,
             Verb::Gmap,

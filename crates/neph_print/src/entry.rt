@@ -92,6 +92,8 @@ fn put_refusal(text: &mut Vec<u8>, why: Refusal) -> Result<(), NoMemory>
             put_labelled(text, b"frames ", need)?;
             put_labelled(text, b" ", free)
         }
+        Refusal::NoGrant => put_word(text, b"nogrant"),
+        Refusal::Busy => put_word(text, b"busy"),
         Refusal::NoEntry => put_word(text, b"noentry"),
         Refusal::NotYours => put_word(text, b"notyours"),
         Refusal::Gone => put_word(text, b"gone"),

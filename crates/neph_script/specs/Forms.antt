@@ -29,7 +29,7 @@ abbrev pub later : List (List ℕ)
 later =
     codes "dir" ∷ codes "file"
     ∷ codes "kill" ∷ codes "dump" ∷ codes "wipe"
-    ∷ codes "grant" ∷ codes "ungrant"
+    ∷ codes "grant"
     ∷ codes "alloc" ∷ codes "bind" ∷ codes "send" ∷ codes "wait" ∷ codes "close"
     ∷ codes "sread" ∷ codes "swrite" ∷ codes "slist" ∷ codes "srm"
     ∷ codes "puts" ∷ codes "tx" ∷ codes "rx" ∷ codes "p9put" ∷ codes "p9get"

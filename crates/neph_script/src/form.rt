@@ -65,8 +65,7 @@ fn later() -> &'static [&'static [u8]]
     ensures { map (λ w. w.now) result.now ≡ later }
 {
     &[
-        b"dir", b"file", b"kill", b"dump", b"wipe", b"grant", b"ungrant", b"alloc", b"bind",
-        b"send", b"wait", b"close", b"sread", b"swrite", b"slist", b"srm", b"puts", b"tx", b"rx",
-        b"p9put", b"p9get",
+        b"dir", b"file", b"kill", b"dump", b"wipe", b"grant", b"alloc", b"bind", b"send", b"wait",
+        b"close", b"sread", b"swrite", b"slist", b"srm", b"puts", b"tx", b"rx", b"p9put", b"p9get",
     ]
 }
