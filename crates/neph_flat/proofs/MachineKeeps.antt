@@ -23,6 +23,8 @@ use Rattle.neph_model.specs.declared.own.Own.{Own}
 use Rattle.neph_model.specs.declared.told.Told.{Told}
 use Rattle.neph_grant.specs.Handles.{Mappings}
 use Rattle.neph_laws.proofs.HandleRows.{IsOfHandles, handle_row}
+use Rattle.neph_laws.proofs.GrantRows.{ungrant_row}
+use Rattle.neph_grant.specs.Table.{Grants}
 use Rattle.neph_model.specs.Machine.{Machine, Shared, Tables, Exposed, own_at, no_own, no_guest, guest_at, life_at, is_live, exposed_at, program_run}
 use Rattle.neph_model.specs.Programs.{command_at, labels_of, program_at}
 use Rattle.neph_model.specs.Own.{local_step, page_of, with_alone, mapping_at}
@@ -30,7 +32,7 @@ use Rattle.neph_model.specs.Lent.{Lent, PageBack, lent, own_given, own_replied, 
 use Rattle.neph_model.specs.Trap as trap
 use Rattle.neph_model.specs.Births.{child_own, parent_own, commit, join, child_exposed, child_guest}
 use Rattle.neph_model.specs.Memory.{page_with_identity}
-use Rattle.neph_model.specs.Laws.{IsApart, StaysApart}
+use Rattle.neph_model.specs.Laws.{IsApart, IsGranted, StaysApart, StaysGranted}
 use Rattle.neph_model.specs.Step.{Outcome, Locked, locked, step_by, locked_step, call_effect, shared_line, shared_commit, shared_join, step, actor, child_made, is_due, is_paused, is_some_left, bear}
 use Rattle.neph_base.specs.declared.memory.NoMemory.{NoMemory}
 use Rattle.neph_rows.specs.Records.{Records, shared_of}
@@ -133,6 +135,7 @@ behind_sound o (command.JChild label) r back other h lt = called_sound o (comman
 behind_sound o (command.JFail label) r back other h lt = called_sound o (command.JFail label) r back h lt
 behind_sound o command.Free r back other h lt = called_sound o command.Free r back h lt
 behind_sound o command.Clone r back other h lt = called_sound o command.Clone r back h lt
+behind_sound o (command.Ungrant n) r back other h lt = called_sound o (command.Ungrant n) r back h lt
 behind_sound o (command.Gmap granter n) r back other h lt = called_sound o (command.Gmap granter n) r back h lt
 behind_sound o (command.Gunmap k) r back other h lt = called_sound o (command.Gunmap k) r back h lt
 behind_sound o (command.Hr k at n) r back other h lt = called_sound o (command.Hr k at n) r back h lt
@@ -182,6 +185,18 @@ called_handles sh id l told c low is =
     handle_row sh id g (Called sh id) (λ why plain. quiet sh id (Err why) refl refl refl) (λ bytes. quiet sh id (trap.answers sh (reply.Bytes bytes)) refl refl refl) (λ hs h. handles hs (reply.Number h) refl) (λ hs. handles hs reply.Done refl)
     (λ granter pfn at bytes there. quiet sh id (Ok _) refl (length-set sh.pages granter _) refl) l told c is
 
+called_ended : (sh : Shared) (id r : ℕ) → id < length sh.tables.guests → Called sh id (trap.ungrant_call sh id (guest_at id sh.tables) r)
+called_ended sh id r low =
+    let g = guest_at id sh.tables in
+    let here : (gs : Grants) → let new : Guest = record g { grants = gs } in get_or (set sh.tables.guests id new) id no_guest ≡ new = λ gs. get_or-set_same sh.tables.guests id (record g { grants = gs }) no_guest low in
+    ungrant_row sh id g (Called sh id) (λ why plain. quiet sh id (Err why) refl refl refl)
+    (λ q e may.
+    let gs = fm.remove g.grants q in
+    record { tables = λ j far. far_set sh.tables.guests id (record g { grants = gs }) no_guest j far; begun = omega (arith, ap (λ (x : Guest). length x.begun) (here gs)); pages = refl; lives = refl })
+    (λ q e may free.
+    let gs = fm.remove g.grants q in
+    record { tables = λ j far. far_set sh.tables.guests id (record g { grants = gs }) no_guest j far; begun = omega (arith, ap (λ (x : Guest). length x.begun) (here gs)); pages = length-set sh.pages id _; lives = refl }) r
+
 called : (sh : Shared) (id : ℕ) (l : Lent) (told : Told) (c : Command) → id < length sh.tables.guests → Called sh id (trap.trap sh id (guest_at id sh.tables) l told c)
 called sh id l told (command.W addr bytes) low = called_met sh id _ bytes l.met
 called sh id l told (command.R addr len) low = quiet sh id (trap.trap sh id (guest_at id sh.tables) l told (command.R addr len)) refl refl refl
@@ -193,6 +208,7 @@ called sh id l told (command.JFail label) low = quiet sh id (Err _) refl refl re
 called sh id l told command.Exit low = quiet sh id (Err _) refl refl refl
 called sh id l told command.Free low = quiet sh id (trap.trap sh id (guest_at id sh.tables) l told command.Free) refl refl refl
 called sh id l told command.Clone low = called_clone sh id _ low
+called sh id l told (command.Ungrant n) low = called_ended sh id n low
 called sh id l told (command.Gmap granter n) low = called_handles sh id l told (command.Gmap granter n) low tt
 called sh id l told (command.Gunmap k) low = called_handles sh id l told (command.Gunmap k) low tt
 called sh id l told (command.Hr k at n) low = called_handles sh id l told (command.Hr k at n) low tt
@@ -224,18 +240,29 @@ due_line s m id line e =
 runs_due : (s : Script) (m : Machine) (id line p : ℕ) → IsSound s m → DueLine s m id line → Runs (labels_of (program_at s p)) (own_at id m.own).line (command_at s p line)
 runs_due s m id line p h due = subst (λ k. Runs (labels_of (program_at s p)) (own_at id m.own).line (command_at s p k)) due.line (runs_line s p (own_at id m.own).line h.formed)
 
-apart_kept : StaysApart → (s : Script) (m new : Machine) (e : Entry) (told : Told) (r : Reply) → IsSound s m → step s m e told ≡ record { machine = new; reply = r } → actor e < 64
+-- what an entry leaves, by the laws: each page in one half alone, and each grant of an exposed page
+abbrev pub StaysLawful : Type 0
+StaysLawful = StaysApart × StaysGranted
+
+apart_kept : StaysLawful → (s : Script) (m new : Machine) (e : Entry) (told : Told) (r : Reply) → IsSound s m → step s m e told ≡ record { machine = new; reply = r } → actor e < 64
     → IfSome (child_made e r) (λ child. (child < 64) × (child ≢ actor e)) → IsApart new
 apart_kept stays s m new e told r h did low born =
     let goes = subst (λ n. IfSome (child_made e r) (λ child. (child < n) × (child ≢ actor e))) (sym h.places) born in
     let made = subst (λ (o : Outcome). IfSome (child_made e o.reply) (λ child. (child < length m.own) × (child ≢ actor e))) (sym did) goes in
-    subst (λ (o : Outcome). IsApart o.machine) did (stays s m e told (h.places ∙ sym h.exposed) (omega (arith, h.places, low)) made h.apart)
+    subst (λ (o : Outcome). IsApart o.machine) did (stays.0 s m e told (h.places ∙ sym h.exposed) (omega (arith, h.places, low)) made h.apart)
+
+granted_kept : StaysLawful → (s : Script) (m new : Machine) (e : Entry) (told : Told) (r : Reply) → IsSound s m → length m.shared.tables.guests ≡ 64 → step s m e told ≡ record { machine = new; reply = r } → actor e < 64
+    → IfSome (child_made e r) (λ child. (child < 64) × (child ≢ actor e)) → IsGranted new
+granted_kept stays s m new e told r h guests did low born =
+    let goes = subst (λ n. IfSome (child_made e r) (λ child. (child < n) × (child ≢ actor e))) (sym h.places) born in
+    let made = subst (λ (o : Outcome). IfSome (child_made e o.reply) (λ child. (child < length m.own) × (child ≢ actor e))) (sym did) goes in
+    subst (λ (o : Outcome). IsGranted o.machine) did (stays.1 s m e told (h.places ∙ sym h.exposed) (h.places ∙ sym guests) (omega (arith, h.places, low)) made h.granted)
 
 -- a line that its domain does by itself
-pub sound_local : StaysApart → (s : Script) (m : Machine) (id line : ℕ) (told : Told) (new : Own) (r : Reply) → IsSound s m → is_due s m (Line id line) ≡ true → id < 64
+pub sound_local : StaysLawful → (s : Script) (m : Machine) (id line : ℕ) (told : Told) (new : Own) (r : Reply) → IsSound s m → is_due s m (Line id line) ≡ true → id < 64 → length m.shared.tables.guests ≡ 64
     → local_step s (program_run id m.shared.lives) (own_at id m.own) told (command_at s (program_run id m.shared.lives) line) ≡ Some (new, r)
     → step s m (Line id line) told ≡ record { machine = record m { own = set m.own id new }; reply = r } → IsSound s (record m { own = set m.own id new })
-sound_local stays s m id line told new r h due low did goes =
+sound_local stays s m id line told new r h due low guests did goes =
     let p = program_run id m.shared.lives in
     let at = due_line s m id line due in
     let here = h.each id at.live in
@@ -246,6 +273,7 @@ sound_local stays s m id line told new r h due low did goes =
       places = length-set m.own id new ∙ h.places;
       exposed = h.exposed;
       apart = apart_kept stays s m (record m { own = set m.own id new }) (Line id line) told r h goes low tt;
+      granted = granted_kept stays s m (record m { own = set m.own id new }) (Line id line) told r h guests goes low tt;
       each = each_put m.shared.lives m.shared.lives m.own (set m.own id new) m.shared.tables.guests m.shared.tables.guests id h.each (λ j far. refl) (far_set m.own id new no_own) (λ j far. refl)
           (λ live. rw there (record { own = own; commits = omega (arith, own.line, at.idle) }));
     }
@@ -298,6 +326,8 @@ line_kept s m id line l told (command.JFail label) h at short low lives guests =
     call_kept s m id (command.JFail label) _ h at.live at.idle (short (λ e. absurd (cc))) (λ e. absurd (cc)) (omega (arith, h.places, low)) (called m.shared id l told (command.JFail label) (omega (arith, guests, low)))
 line_kept s m id line l told command.Free h at short low lives guests =
     call_kept s m id command.Free _ h at.live at.idle (short (λ e. absurd (cc))) (λ e. absurd (cc)) (omega (arith, h.places, low)) (called m.shared id l told command.Free (omega (arith, guests, low)))
+line_kept s m id line l told (command.Ungrant n) h at short low lives guests =
+    call_kept s m id (command.Ungrant n) _ h at.live at.idle (short (λ e. absurd (cc))) (λ e. absurd (cc)) (omega (arith, h.places, low)) (called m.shared id l told (command.Ungrant n) (omega (arith, guests, low)))
 line_kept s m id line l told (command.Gmap granter n) h at short low lives guests =
     call_kept s m id (command.Gmap granter n) _ h at.live at.idle (short (λ e. absurd (cc))) (λ e. absurd (cc)) (omega (arith, h.places, low)) (called m.shared id l told (command.Gmap granter n) (omega (arith, guests, low)))
 line_kept s m id line l told (command.Gunmap k) h at short low lives guests =
@@ -309,27 +339,6 @@ line_kept s m id line l told (command.Hw k at' bytes) h at short low lives guest
 line_kept s m id line l told command.Clone h at short low lives guests =
     call_kept s m id command.Clone _ h at.live at.idle (short (λ e. absurd (cc))) (λ e. absurd (cc)) (omega (arith, h.places, low)) (called m.shared id l told command.Clone (omega (arith, guests, low)))
 
--- a line of a domain under the lock
-pub sound_called : StaysApart → (s : Script) (m : Machine) (id line : ℕ) (told : Told) (sh : Shared) (r : Reply) → IsSound s m → is_due s m (Line id line) ≡ true → id < 64 → length m.shared.lives ≡ 64 → length m.shared.tables.guests ≡ 64
-    → let c = command_at s (program_run id m.shared.lives) line in let o = own_at id m.own in
-    shared_line m.shared id (lent o c) told c ≡ locked sh r
-    → step s m (Line id line) told ≡ record { machine = record { own = set m.own id (own_behind o c r None); shared = sh }; reply = r }
-    → IsSound s (record { own = set m.own id (own_behind o c r None); shared = sh })
-sound_called stays s m id line told sh r h due low lives guests did goes =
-    let p = program_run id m.shared.lives in
-    let c = command_at s p line in
-    let o = own_at id m.own in
-    let at = due_line s m id line due in
-    let runs = runs_due s m id line p h at in
-    let k = subst (λ (x : Locked). LineKept m id c x.shared x.reply x.back) did (line_kept s m id line (lent o c) told c h at runs.short low lives guests) in
-    record {
-      formed = h.formed;
-      places = length-set m.own id (own_behind o c r None) ∙ h.places;
-      exposed = k.pages ∙ h.exposed;
-      apart = apart_kept stays s m (record { own = set m.own id (own_behind o c r None); shared = sh }) (Line id line) told r h goes low tt;
-      each = k.each;
-    }
-
 kid_keeps : (child id : ℕ) (o : Own) → Keeps o (child_own child id o)
 kid_keeps child id o =
     let first = option_map (λ page. page_with_identity page child id (length o.pages)) (page_of o 0) in
@@ -340,7 +349,7 @@ parent_keeps : (o : Own) → Keeps o (parent_own o)
 parent_keeps o = record { pages = refl; alone = length-map o.alone (λ a. false); leaves = omega arith; mapped = λ h. h }
 
 -- the commit of a clone
-pub sound_commit : StaysApart → (s : Script) (m : Machine) (id line child : ℕ) (left : List ℕ) (told : Told) → IsSound s m → is_live id m.shared.lives ≡ true → (guest_at id m.shared.tables).begun ≡ child ∷ left → id < child → child < 64
+pub sound_commit : StaysLawful → (s : Script) (m : Machine) (id line child : ℕ) (left : List ℕ) (told : Told) → IsSound s m → is_live id m.shared.lives ≡ true → (guest_at id m.shared.tables).begun ≡ child ∷ left → id < child → child < 64
     → length m.shared.lives ≡ 64 → length m.shared.tables.guests ≡ 64
     → let o = own_at id m.own in let new : Machine = record { own = set (set m.own child (child_own child id o)) id (parent_own o); shared = commit m.shared id child left } in
     step s m (Commit id line) told ≡ record { machine = new; reply = reply.Child child } → IsSound s new
@@ -375,12 +384,13 @@ sound_commit stays s m id line child left told h live begun after low lives gues
       places = length-set own1 id par ∙ length-set m.own child kid ∙ h.places;
       exposed = length-set m.shared.pages child (child_exposed (exposed_at id m.shared.pages)) ∙ h.exposed;
       apart = apart_kept stays s m (record { own = own2; shared = commit m.shared id child left }) (Commit id line) told (reply.Child child) h goes (omega (arith, after, low)) (low, λ e. apart_ids (sym e));
+      granted = granted_kept stays s m (record { own = own2; shared = commit m.shared id child left }) (Commit id line) told (reply.Child child) h guests goes (omega (arith, after, low)) (low, λ e. apart_ids (sym e));
       each = subst (λ (gs : List Guest). Each lives2 own2 gs) (sym (set_comm m.shared.tables.guests id child left_guest kid_guest apart_ids)) two;
     }
 
 -- the second stage of the oldest clone
 pub sound_join : (s : Script) (m : Machine) (rest : List Cloned) → IsSound s m → IsSound s (record m { shared = join m.shared rest })
-sound_join s m rest h = record { formed = h.formed; places = h.places; exposed = h.exposed; apart = h.apart; each = h.each }
+sound_join s m rest h = record { formed = h.formed; places = h.places; exposed = h.exposed; apart = h.apart; granted = h.granted; each = h.each }
 
 -- what is known of a domain whose commit is due
 pub due_commit : (s : Script) (m : Machine) (id line : ℕ) → is_due s m (Commit id line) ≡ true → (is_live id m.shared.lives ≡ true) × (child : ℕ) × (left : List ℕ) × ((guest_at id m.shared.tables).begun ≡ child ∷ left)
@@ -397,29 +407,31 @@ record DueEntry (m : Machine) (e : Entry) : Type 0 where
   guests : length m.shared.tables.guests ≡ 64
   children : (child : ℕ) (left : List ℕ) → (guest_at (actor e) m.shared.tables).begun ≡ child ∷ left → (actor e < child) × (child < 64)
 
-line_step : StaysApart → (s : Script) (m : Machine) (id line : ℕ) (told : Told) → IsSound s m → is_due s m (Line id line) ≡ true → DueEntry m (Line id line) → IsSound s (step s m (Line id line) told).machine
-line_step stays s m id line told h due at =
+-- a line that is due
+pub line_step : StaysLawful → (s : Script) (m : Machine) (id line : ℕ) (told : Told) → IsSound s m → is_due s m (Line id line) ≡ true → id < 64 → length m.shared.lives ≡ 64 → length m.shared.tables.guests ≡ 64 → IsSound s (step s m (Line id line) told).machine
+line_step stays s m id line told h due low lives guests =
     let e = Line id line in
     let p = program_run id m.shared.lives in
     let c = command_at s p line in
     let o = own_at id m.own in
     elim (local_step s p o told c) as (λ x. local_step s p o told c ≡ x → IsSound s (step_by s m e told x).machine) [
-      | Some did ↦ λ is. sound_local stays s m id line told did.0 did.1 h due at.low is (ap (step_by s m e told) is)
+      | Some did ↦ λ is. sound_local stays s m id line told did.0 did.1 h due low guests is (ap (step_by s m e told) is)
       | None ↦ λ is.
           let goes : step s m e told ≡ locked_step s m e told = ap (step_by s m e told) is in
           let known = due_line s m id line due in
           let runs = runs_due s m id line p h known in
-          let k = line_kept s m id line (lent o c) told c h known runs.short at.low at.lives at.guests in
+          let k = line_kept s m id line (lent o c) told c h known runs.short low lives guests in
           record {
             formed = h.formed;
             places = length-set m.own id _ ∙ h.places;
             exposed = k.pages ∙ h.exposed;
-            apart = apart_kept stays s m (locked_step s m e told).machine e told (locked_step s m e told).reply h goes at.low tt;
+            apart = apart_kept stays s m (locked_step s m e told).machine e told (locked_step s m e told).reply h goes low tt;
+            granted = granted_kept stays s m (locked_step s m e told).machine e told (locked_step s m e told).reply h guests goes low tt;
             each = k.each;
           }
     ] refl
 
-commit_step : StaysApart → (s : Script) (m : Machine) (id line : ℕ) (told : Told) → IsSound s m → is_due s m (Commit id line) ≡ true → DueEntry m (Commit id line) → IsSound s (step s m (Commit id line) told).machine
+commit_step : StaysLawful → (s : Script) (m : Machine) (id line : ℕ) (told : Told) → IsSound s m → is_due s m (Commit id line) ≡ true → DueEntry m (Commit id line) → IsSound s (step s m (Commit id line) told).machine
 commit_step stays s m id line told h due at =
     let two = due_commit s m id line due in
     let o = own_at id m.own in
@@ -439,8 +451,8 @@ join_step s m told h = by m.shared.tables.waiting where
   by [] = subst (λ (os : List Own). IsSound s (record { own = os; shared = m.shared })) (sym same) h
   by (w ∷ rest) = subst (λ (os : List Own). IsSound s (record { own = os; shared = join m.shared rest })) (sym same) (sound_join s m rest h)
 
-sound_step : StaysApart → (s : Script) (m : Machine) (e : Entry) (told : Told) → IsSound s m → is_due s m e ≡ true → DueEntry m e → IsSound s (step s m e told).machine
-sound_step stays s m (Line id line) told h due at = line_step stays s m id line told h due at
+sound_step : StaysLawful → (s : Script) (m : Machine) (e : Entry) (told : Told) → IsSound s m → is_due s m e ≡ true → DueEntry m e → IsSound s (step s m e told).machine
+sound_step stays s m (Line id line) told h due at = line_step stays s m id line told h due at.low at.lives at.guests
 sound_step stays s m (Commit id line) told h due at = commit_step stays s m id line told h due at
 sound_step stays s m Daemon told h due at = join_step s m told h
 
@@ -456,7 +468,7 @@ due_entry r own pages e h low =
     }
 
 -- an entry that was done leaves a sound machine
-pub sound_done : StaysApart → (s : Script) (r : Records) (own : List Own) (pages : List Exposed) (new : Machine) (e : Entry) (told : Told) (did : Result Reply NoMemory)
+pub sound_done : StaysLawful → (s : Script) (r : Records) (own : List Own) (pages : List Exposed) (new : Machine) (e : Entry) (told : Told) (did : Result Reply NoMemory)
     → let m : Machine = record { own = own; shared = shared_of r pages } in IsSound s m → is_due s m e ≡ true → IsSoundRecords r → actor e < 64 → StepDone s m new e told did → IsSound s new
 sound_done stays s r own pages new e told (Ok answer) h due rs low did =
     let m : Machine = record { own = own; shared = shared_of r pages } in

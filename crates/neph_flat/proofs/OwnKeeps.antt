@@ -204,6 +204,7 @@ local_sound s p o new told (command.Jump label) r h runs e = jumped_sound o new 
 local_sound s p o new told (command.JChild label) r h runs e = jumped_sound o new r (label_line_at s p label) o.came h runs.ahead.1 (runs.low label) e
 local_sound s p o new told (command.JFail label) r h runs e = jumped_sound o new r (label_line_at s p label) o.refused h runs.ahead.1 (runs.low label) e
 local_sound s p o new told command.Exit r h runs e = absurd (cc)
+local_sound s p o new told (command.Ungrant n) r h runs e = absurd (cc)
 local_sound s p o new told (command.Gmap granter n) r h runs e = absurd (cc)
 local_sound s p o new told (command.Gunmap k) r h runs e = absurd (cc)
 local_sound s p o new told (command.Hr k at n) r h runs e = absurd (cc)

@@ -1,5 +1,5 @@
 -- Maps of exposed pages that are changed.
-use Rattle.std.proofs.Common.{◌≡◌, ℕ, ◌+◌, ◌<◌, true, cond, List, get_or, set, Option, Some, None, refl, sym, ap, subst, ◌∙◌, arith}
+use Rattle.std.proofs.Common.{◌≡◌, ℕ, ◌+◌, ◌-◌, ◌<◌, ◌≤◌, Bool, true, false, cond, List, get_or, set, Option, Some, None, refl, sym, ap, subst, ◌∙◌, arith}
 use Rattle.std.specs.Prelude.{is_some}
 use Rattle.std.specs.Option.{option_map_or}
 use Rattle.std.specs.Cmp.{nat_cmp_total}
@@ -35,3 +35,10 @@ few_at pages i m h lt is = subst HasFew (sym is) (All-get_or HasFew pages i m (o
 
 pub few_same : (m n : Exposed) → HasFew m → map.len n ≡ map.len m → HasFew n
 few_same m n h e = omega (arith, h, e)
+
+-- and so has it without one of them
+pub few_less : (m n : Exposed) (k : ℕ) → HasFew m → n ≡ map.remove m k → HasFew n
+few_less m n k h e = rw (e, map.len-remove nat_cmp_total m k) (by (map.contains_key m k)) where
+  by : (b : Bool) → cond b (map.len m - 1) (map.len m) ≤ 1024
+  by true = omega (arith, h)
+  by false = omega (arith, h)

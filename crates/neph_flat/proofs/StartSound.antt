@@ -21,6 +21,9 @@ use Rattle.neph_model.specs.Own.{page_of}
 use Rattle.neph_model.specs.Start.{started_512s, start_mode, start_vmap, start_pages, start_exposed, start_own, start_life, start_guest, of_starts, places, start_machine}
 use Rattle.neph_model.specs.WellFormed.{IsWellFormed, IsWellFormedStart}
 use Rattle.std.specs.Prelude.{map as map_list}
+use Rattle.neph_grant.specs.declared.entry.GrantEntry.{GrantEntry}
+use Rattle.neph_model.specs.Laws.{AreGranted}
+use Rattle.neph_laws.proofs.GrantRows.{device_granted}
 use Rattle.neph_rows.specs.Records.{Records, first_records, records_in}
 use Rattle.neph_rows.specs.Slots.{first_guest}
 use Rattle.neph_rows.specs.Sound.{IsSoundRecords, IsSoundGuest, IsSoundLife, IsChildOf, IsPair}
@@ -232,6 +235,31 @@ live_start s h id =
       at None e live = absurd (cc)
       at (Some p) e live = own_start (length s.programs) p.0 p.1 (place_facts (IsWellFormedStart (length s.programs)) s.starts id p h.starts e).holds
 
+-- each device page is exposed
+devices_exposed : (pfn : ℕ) → 0 < pfn → pfn < 4 → is_some (map.get start_exposed pfn) ≡ true
+devices_exposed zero low high = absurd (omega arith)
+devices_exposed (suc zero) low high = rw (exposed_get 1) refl
+devices_exposed (suc (suc zero)) low high = rw (exposed_get 2) refl
+devices_exposed (suc (suc (suc zero))) low high = rw (exposed_get 3) refl
+devices_exposed (suc (suc (suc (suc k)))) low high = absurd (omega arith)
+
+-- the grants of a domain at the start
+granted_start : (s : Script) → (id : ℕ) → AreGranted (guest_at id (start_machine s).shared.tables).grants (length (own_at id (start_machine s).own).pages) (exposed_at id (start_machine s).shared.pages)
+granted_start s id =
+    let none : Exposed = map.empty in
+    subst (λ (g : Guest). AreGranted g.grants (length (own_at id (start_machine s).own).pages) (exposed_at id (start_machine s).shared.pages)) (sym (place_at no_guest (λ n t. start_guest) s.starts id))
+    (subst (λ (o : Own). AreGranted (of_place no_guest (λ n t. start_guest) (place s.starts id)).grants (length o.pages) (exposed_at id (start_machine s).shared.pages)) (sym (place_at no_own start_own s.starts id))
+    (subst (AreGranted (of_place no_guest (λ n t. start_guest) (place s.starts id)).grants (length (of_place no_own start_own (place s.starts id)).pages)) (sym (place_at none (λ n t. start_exposed) s.starts id)) (at (place s.starts id)))) where
+      nothing : {e : GrantEntry} → None ≡ Some e → ⊥
+      nothing e = cc
+
+      at : (o : Option (ℕ × Start)) → AreGranted (of_place no_guest (λ n t. start_guest) o).grants (length (of_place no_own start_own o).pages) (of_place map.empty (λ n t. start_exposed) o)
+      at None r e is = absurd (nothing (sym (map.get-empty nat_cmp r) ∙ is))
+      at (Some p) r e is =
+          let d = device_granted r e is in
+          let long = length-replicate (p.1.pages - 4) (Some zero_page) in
+          record { low = omega (arith, d.0); exposed = devices_exposed e.pfn (omega (arith, d.1)) (omega (arith, d.0, d.1)); inside = omega (arith, d.0, d.1, long) }
+
 -- the machine at the start
 pub sound_start : (s : Script) → IsWellFormed s → IsSound s (start_machine s)
 sound_start s h =
@@ -240,6 +268,7 @@ sound_start s h =
       places = length_places no_own start_own s.starts (omega (arith, h.few));
       exposed = length_places map.empty (λ n t. start_exposed) s.starts (omega (arith, h.few));
       apart = λ id pfn lt. apart_start s h id pfn lt;
+      granted = granted_start s;
       each = λ id live.
           let own = live_start s h id live in
           let g : length (guest_at id (start_machine s).shared.tables).begun ≡ 0 =

@@ -6,7 +6,7 @@ use Rattle.neph_model.specs.declared.memory.Mapping.{Mapping}
 use Rattle.neph_model.specs.declared.life.Guest.{Guest}
 use Rattle.neph_model.specs.declared.own.Own.{Own}
 use Rattle.neph_model.specs.Machine.{Machine, own_at, is_live, guest_at}
-use Rattle.neph_model.specs.Laws.{IsApart}
+use Rattle.neph_model.specs.Laws.{IsApart, IsGranted}
 use Rattle.neph_model.specs.WellFormed.{IsWellFormed}
 
 -- each virtual page maps to a page that is there
@@ -29,11 +29,13 @@ pub record IsSoundDomain (o : Own) (g : Guest) : Type 0 where
   pub own : IsSoundOwn o
   pub commits : o.line + length g.begun ≤ 512
 
--- each id from 0 to 63 has a place, each page is in one half alone, and each live domain is sound
+-- each id from 0 to 63 has a place, each page is in one half alone, each entry of a grant table names
+-- an exposed page, and each live domain is sound
 pub record IsSound (s : Script) (m : Machine) : Type 0 where
   pub formed : IsWellFormed s
   pub places : length m.own ≡ 64
   pub exposed : length m.shared.pages ≡ 64
   pub apart : IsApart m
+  pub granted : IsGranted m
   pub each : (id : ℕ) → is_live id m.shared.lives ≡ true
       → IsSoundDomain (own_at id m.own) (guest_at id m.shared.tables)

@@ -32,7 +32,7 @@ pub fn lent(o: &Own, command: &Command) -> Lent
     }
 }
 
-/// Goes on behind a command that was answered so under the lock.
+/// Goes on behind a command that was answered so under the lock and gave no page back.
 pub fn go_on(alloc: Global, o: &mut Own, command: &Command, reply: &Reply)
     requires room { o.old.line < 65535 }
     requires mapped { IsMapped o.old }
@@ -44,6 +44,14 @@ pub fn go_on(alloc: Global, o: &mut Own, command: &Command, reply: &Reply)
         return;
     }
     give(o, command, reply);
+    settle(o, reply);
+}
+
+/// Goes on to the next line with the mark of a reply. A clone that begins stays at its line.
+pub fn settle(o: &mut Own, reply: &Reply)
+    requires { o.old.line < 65535 }
+    ensures { o.new ≡ own_replied o.old reply.now }
+{
     match reply {
         Reply::Begun(_) => o.refused = false,
         Reply::Refused(_) => {

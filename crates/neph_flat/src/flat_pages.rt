@@ -31,7 +31,8 @@ impl Model for FlatPages {
 }
 
 impl FlatPages {
-    ghost use Rattle.std.specs.Prelude.{◌≡◌};
+    ghost use Rattle.std.specs.Prelude.{◌≡◌, true};
+    ghost use Rattle.neph_model.specs.Trap.{is_exposed, exposed_bytes, without_exposed};
     ghost use Rattle.neph_flat.specs.Pages.{IsPlaced};
 
     /// These pages.
@@ -40,6 +41,15 @@ impl FlatPages {
         ensures { result ≡ maps.items }
     {
         FlatPages { alloc, maps }
+    }
+
+    /// Takes an exposed page of a domain off.
+    pub fn take(&mut self, id: DomId, pfn: Pfn) -> Page
+        requires { is_exposed self.old id pfn ≡ true }
+        ensures page { result ≡ exposed_bytes self.old id pfn }
+        ensures rest { self.new ≡ without_exposed self.old id pfn }
+    {
+        self.maps[id.get() as usize].take(pfn.get())
     }
 }
 

@@ -3,29 +3,33 @@ ghost use Rattle.std.specs.Prelude.{◌≡◌, ◌≤◌, ◌<◌, ◌∷◌, �
 ghost use Rattle.std.specs.Option.{option_copied};
 ghost use Rattle.neph_model.specs.Turns.{next_command};
 ghost use Rattle.neph_flat.specs.Flat.{live_own};
+ghost use Rattle.neph_base.specs.declared.command.Command.TheVariants as command;
 ghost use Rattle.neph_base.specs.declared.reply.Entry.TheVariants as entry;
+ghost use Rattle.neph_model.specs.Laws.{AreGranted};
+ghost use Rattle.neph_model.specs.Trap.{is_exposed, exposed_bytes, without_exposed};
+ghost use Rattle.neph_model.specs.declared.told.Told.{Told};
 ghost use Rattle.neph_model.specs.declared.script.Script.{Script};
 ghost use Rattle.neph_model.specs.Births.{child_own, parent_own, none_alone};
-ghost use Rattle.neph_model.specs.Lent.{lent, own_behind};
-ghost use Rattle.neph_model.specs.Machine.{is_live, own_at, guest_at, program_run};
-ghost use Rattle.neph_model.specs.Own.{local_step};
+ghost use Rattle.neph_model.specs.Lent.{lent, own_behind, own_replied};
+ghost use Rattle.neph_model.specs.Machine.{is_live, own_at, guest_at, exposed_at, program_run};
+ghost use Rattle.neph_model.specs.Own.{local_step, with_page};
 ghost use Rattle.neph_model.specs.Programs.{command_at};
 ghost use Rattle.neph_model.specs.Step.{actor, is_due, locked, shared_line, shared_commit};
 ghost use Rattle.neph_model.specs.WellFormed.{FitsPage};
 ghost use Rattle.neph_rows.specs.Row.{MayBeAsked};
 ghost use Rattle.neph_rows.specs.Sound.{IsSoundRecords};
-ghost use Rattle.neph_flat.specs.Answers.{StepAnswers, StepDone};
+ghost use Rattle.neph_flat.specs.Answers.{StepAnswers, StepDone, HasAsked, IsAsked};
 ghost use Rattle.neph_flat.specs.Sound.{IsSound, IsSoundOwn};
 
-use crate::call::{go_on, lent};
+use crate::call::{go_on, lent, settle};
 use crate::child::{child_own, none_alone};
 use crate::end::FlatEnd;
 use crate::flat_pages::FlatPages;
 use crate::local::local;
-use neph_base::{Command, DomId, Entry, List, NoMemory, Reply};
-use neph_laws::stays_apart;
+use neph_base::{Command, DomId, Entry, GrantRef, List, NoMemory, Pfn, Reply};
+use neph_laws::{grants_stay, stays_apart};
 use neph_model::{Own, Script, Told};
-use neph_rows::{Registry, commit, join, line};
+use neph_rows::{Registry, commit, join, line, ungrant};
 use std::alloc::Global;
 
 /// The machine: the own half of each id, and the shared half.
@@ -75,6 +79,7 @@ impl Halves {
             return Err(FlatEnd::NotNext);
         }
         stays_apart();
+        grants_stay();
         Ok(self.step(script, e, told)?)
     }
 
@@ -157,11 +162,80 @@ impl Halves {
         let o = &mut self.own[dom.get() as usize];
         match local(script, program, o, told, &command)? {
             Some(reply) => Ok(reply),
-            None => Ok(self.call(dom, told, &command)),
+            None => Ok(self.ask(dom, told, &command)),
         }
     }
 
-    // Does a command of a domain under the lock.
+    // Does a command of a domain that is due under the lock.
+    fn ask(&mut self, dom: DomId, told: Told, command: &Command) -> Reply
+        requires places { length self.old.own.items ≡ 64 }
+        requires asked { IsAsked self.old.pages dom
+            (lent (own_at dom self.old.own.items) command.now).met command.now }
+        requires fits { FitsPage command.now }
+        requires live { is_live dom self.old.registry.lives ≡ true }
+        requires sound { IsSoundOwn (own_at dom self.old.own.items) }
+        requires granted { AreGranted (guest_at dom self.old.registry.tables).grants
+            (length (own_at dom self.old.own.items).pages) (exposed_at dom self.old.pages) }
+        ensures { HasAsked (seen self.old) (seen self.new) dom told command.now result }
+    {
+        match command {
+            Command::Ungrant { reference } => self.ungrant(dom, *reference),
+            _ => self.call(dom, told, command),
+        }
+    }
+
+    // Takes an entry of a domain's grants away. Where no other entry names its page, the page is
+    // the domain's own again.
+    fn ungrant(&mut self, dom: DomId, reference: GrantRef) -> Reply
+        requires places { length self.old.own.items ≡ 64 }
+        requires sound { IsSoundOwn (own_at dom self.old.own.items) }
+        requires granted { AreGranted (guest_at dom self.old.registry.tables).grants
+            (length (own_at dom self.old.own.items).pages) (exposed_at dom self.old.pages) }
+        ensures { (told : Told) → HasAsked (seen self.old) (seen self.new) dom told
+            (command.Ungrant reference) result }
+    {
+        match ungrant(&mut self.registry, dom, reference) {
+            Ok(None) => self.answer(dom, Reply::Done),
+            Ok(Some(pfn)) => {
+                self.take_home(dom, pfn);
+                self.answer(dom, Reply::Done)
+            }
+            Err(why) => self.answer(dom, Reply::Refused(why)),
+        }
+    }
+
+    // Lets an exposed page of a domain be its own again.
+    fn take_home(&mut self, dom: DomId, pfn: Pfn)
+        requires places { length self.old.own.items ≡ 64 }
+        requires there { is_exposed self.old.pages dom pfn ≡ true }
+        requires inside { pfn < length (own_at dom self.old.own.items).pages }
+        ensures pages { self.new.pages ≡ without_exposed self.old.pages dom pfn }
+        ensures registry { self.new.registry ≡ self.old.registry }
+        ensures own { self.new.own.items ≡ slice_set self.old.own.items dom
+            (with_page (own_at dom self.old.own.items) pfn
+            (Some (exposed_bytes self.old.pages dom pfn))) }
+        ensures low { dom < 64 }
+    {
+        let page = self.pages.take(dom, pfn);
+        let o = &mut self.own[dom.get() as usize];
+        o.pages.put(pfn.get() as usize, page);
+    }
+
+    // A domain goes on behind this reply.
+    fn answer(&mut self, dom: DomId, reply: Reply) -> Reply
+        requires places { length self.old.own.items ≡ 64 }
+        requires room { (own_at dom self.old.own.items).line < 65535 }
+        ensures pages { self.new.pages ≡ self.old.pages }
+        ensures registry { self.new.registry ≡ self.old.registry }
+        ensures own { self.new.own.items ≡ slice_set self.old.own.items dom
+            (own_replied (own_at dom self.old.own.items) reply) }
+        ensures answer { result ≡ reply }
+    {
+        settle(&mut self.own[dom.get() as usize], &reply);
+        reply
+    }
+
+    // Does a command of a domain under the lock by which no page comes home.
     fn call(&mut self, dom: DomId, told: Told, command: &Command) -> Reply
         requires places { length self.old.own.items ≡ 64 }
         requires asked { MayBeAsked self.old.pages dom

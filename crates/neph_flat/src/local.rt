@@ -64,6 +64,7 @@ pub fn local(
         Command::Exit
         | Command::Free
         | Command::Clone
+        | Command::Ungrant { .. }
         | Command::Gmap { .. }
         | Command::Gunmap { .. }
         | Command::Hr { .. }

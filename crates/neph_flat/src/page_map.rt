@@ -79,6 +79,18 @@ impl PageMap {
         page.write(at, bytes);
     }
 
+    /// Takes the page of a number off.
+    pub fn take(&mut self, pfn: u32) -> Page
+        requires { is_some (map.get self.old pfn) ≡ true }
+        ensures page { result ≡ unwrap_or (map.get self.old pfn) [] }
+        ensures rest { self.new ≡ map.remove self.old pfn }
+    {
+        let Some(page) = self.pages.remove(&pfn) else {
+            unreachable!();
+        };
+        page
+    }
+
     /// The same pages again, in memory of their own.
     pub fn copy(&self, alloc: Global) -> Result<Self, NoMemory>
         ensures { IfOk result (λ c. c ≡ self.now) }

@@ -2,6 +2,7 @@ pub mod NoShares
 pub mod SlotGuests
 pub mod Homes
 pub mod EntryRows
+pub mod GrantRows
 pub mod Sound
 pub mod LiveIds
 pub mod SlotFacts

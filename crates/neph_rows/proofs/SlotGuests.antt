@@ -3,12 +3,13 @@ use Rattle.std.proofs.Common.{◌≡◌, ℕ, ◌+◌, ◌<◌, Bool, true, fals
 use Rattle.std.specs.List.{remove, list_any}
 use Rattle.std.proofs.lemmas.List.{map-set, get_or-map, set-get_or}
 use Rattle.neph_model.specs.declared.life.Guest.{Guest}
-use Rattle.neph_model.specs.Machine.{no_guest, but_handles}
-use Rattle.std.specs.Prelude.{Option, None, Some, IfSome, IfNone, ◌||◌, ◌==◌, map}
+use Rattle.neph_model.specs.Machine.{no_guest, but_shares}
+use Rattle.std.specs.Prelude.{Option, None, Some, IfSome, IfNone, OnOk, OnErr, Result, Ok, Err, ◌||◌, ◌==◌, map}
 use Rattle.std.specs.Bool.{OnTrue, OnFalse}
 use Rattle.std.specs.FinMap as fm
 use Rattle.neph_base.specs.declared.command.Mode.{Mode}
-use Rattle.neph_grant.specs.Handles.{Mappings, with_mapping}
+use Rattle.neph_grant.specs.declared.faults.EndFault.{EndFault}
+use Rattle.neph_grant.specs.Handles.{Mappings, with_mapping, maps_entry}
 use Rattle.neph_grant.specs.Table.{Grants}
 use Rattle.neph_rows.specs.Shares.{Shares}
 use Rattle.neph_rows.specs.Slots.{guest_of, guests_of, rooms_of}
@@ -101,23 +102,45 @@ pub room_unmapped : (s new : Slot) (h : ℕ) (b : Bool) → OnTrue b (new.sharin
 room_unmapped s new h true removed kept = ap (λ (x : Shares). x.room) removed
 room_unmapped s new h false removed kept = ap (λ (x : Shares). x.room) kept
 
--- all but the handles of an id that keeps its grants
-pub bare_same : (slots : List Slot) (i : ℕ) (s new : Slot) → s ≡ get_or slots i s → new.accepted ≡ s.accepted → new.begun.items ≡ s.begun.items → new.sharing.grants ≡ s.sharing.grants → map but_handles (guests_of (set slots i new)) ≡ map but_handles (guests_of slots)
-bare_same slots i s new is n b same =
-    let bare = λ (x : Slot). map but_handles (guests_of (set slots i x)) in
-    let put = λ (k : ℕ) (xs : List ℕ) (gs : Grants). set (map but_handles (guests_of slots)) i (record { accepted = k; begun = xs; grants = gs; handles = fm.empty }) in
-    let at : (x : Slot) → bare x ≡ put x.accepted x.begun.items x.sharing.grants = λ x. ap (map but_handles) (map-set guest_of slots i x) ∙ map-set but_handles (guests_of slots) i (guest_of x) in
-    at new ∙ ap (λ k. put k new.begun.items new.sharing.grants) n ∙ ap (λ xs. put s.accepted xs new.sharing.grants) b ∙ ap (put s.accepted s.begun.items) same ∙ sym (at s) ∙ ap (λ xs. map but_handles (guests_of xs)) (set_here slots i s is)
+-- all but what an id shares
+pub bare_same : (slots : List Slot) (i : ℕ) (s new : Slot) → s ≡ get_or slots i s → new.accepted ≡ s.accepted → new.begun.items ≡ s.begun.items → map but_shares (guests_of (set slots i new)) ≡ map but_shares (guests_of slots)
+bare_same slots i s new is n b =
+    let bare = λ (x : Slot). map but_shares (guests_of (set slots i x)) in
+    let put = λ (k : ℕ) (xs : List ℕ). set (map but_shares (guests_of slots)) i (record { accepted = k; begun = xs; grants = fm.empty; handles = fm.empty }) in
+    let at : (x : Slot) → bare x ≡ put x.accepted x.begun.items = λ x. ap (map but_shares) (map-set guest_of slots i x) ∙ map-set but_shares (guests_of slots) i (guest_of x) in
+    at new ∙ ap (λ k. put k new.begun.items) n ∙ ap (put s.accepted) b ∙ sym (at s) ∙ ap (λ xs. map but_shares (guests_of xs)) (set_here slots i s is)
 
-pub grants_mapped : (s new : Slot) (granter r : ℕ) (m : Mode) (o : Option ℕ) → IfSome o (λ h. new.sharing ≡ record s.sharing { handles = with_mapping s.sharing.handles h granter r m }) → IfNone o (new.sharing ≡ s.sharing) → new.sharing.grants ≡ s.sharing.grants
-grants_mapped s new granter r m None put full = ap (λ (x : Shares). x.grants) full
-grants_mapped s new granter r m (Some h) put full = ap (λ (x : Shares). x.grants) put
+-- other grants of an id
+grants_put : (slots : List Slot) (i : ℕ) (s new : Slot) (gs : Grants) → i < length slots → s ≡ get_or slots i s → new.accepted ≡ s.accepted → new.begun.items ≡ s.begun.items → new.sharing ≡ record s.sharing { grants = gs }
+    → guests_of (set slots i new) ≡ set (guests_of slots) i (record (get_or (guests_of slots) i no_guest) { grants = gs })
+grants_put slots i s new gs lt is n b same =
+    let put = λ (k : ℕ) (xs : List ℕ) (x : Shares). set (guests_of slots) i (guest_with k xs x) in
+    map-set guest_of slots i new ∙ ap (λ k. put k new.begun.items new.sharing) n ∙ ap (λ xs. put s.accepted xs new.sharing) b ∙ ap (put s.accepted s.begun.items) same
+    ∙ ap (λ (g : Guest). set (guests_of slots) i (record g { grants = gs })) (sym (guest_read slots i i s lt refl is))
 
-pub grants_unmapped : (s new : Slot) (h : ℕ) (b : Bool) → OnTrue b (new.sharing ≡ record s.sharing { handles = fm.remove s.sharing.handles h }) → OnFalse b (new.sharing ≡ s.sharing) → new.sharing.grants ≡ s.sharing.grants
-grants_unmapped s new h true removed kept = ap (λ (x : Shares). x.grants) removed
-grants_unmapped s new h false removed kept = ap (λ (x : Shares). x.grants) kept
+-- an entry that is taken away
+pub grants_ended : (slots : List Slot) (i : ℕ) (s new : Slot) (r : ℕ) (x : Result ℕ EndFault) → i < length slots → s ≡ get_or slots i s → new.accepted ≡ s.accepted → new.begun.items ≡ s.begun.items
+    → OnOk x (new.sharing ≡ record s.sharing { grants = fm.remove s.sharing.grants r })
+    → OnOk x (let g = get_or (guests_of slots) i no_guest in guests_of (set slots i new) ≡ set (guests_of slots) i (record g { grants = fm.remove g.grants r }))
+grants_ended slots i s new r (Err why) lt is n b same = tt
+grants_ended slots i s new r (Ok pfn) lt is n b same =
+    grants_put slots i s new (fm.remove s.sharing.grants r) lt is n b same
+    ∙ ap (λ (g : Guest). set (guests_of slots) i (record (get_or (guests_of slots) i no_guest) { grants = fm.remove g.grants r })) (sym (guest_read slots i i s lt refl is))
+
+pub grants_kept : (slots : List Slot) (i : ℕ) (s new : Slot) (x : Result ℕ EndFault) → s ≡ get_or slots i s → new.accepted ≡ s.accepted → new.begun.items ≡ s.begun.items → OnErr x (new.sharing ≡ s.sharing) → OnErr x (guests_of (set slots i new) ≡ guests_of slots)
+grants_kept slots i s new (Ok pfn) is n b same = tt
+grants_kept slots i s new (Err why) is n b same = slot_same slots i s new is n b same
+
+pub room_ended : (s new : Slot) (r : ℕ) (x : Result ℕ EndFault) → OnOk x (new.sharing ≡ record s.sharing { grants = fm.remove s.sharing.grants r }) → OnErr x (new.sharing ≡ s.sharing) → new.sharing.room ≡ s.sharing.room
+room_ended s new r (Ok pfn) ended kept = ap (λ (v : Shares). v.room) ended
+room_ended s new r (Err why) ended kept = ap (λ (v : Shares). v.room) kept
 
 -- a clone with a child that was begun, by slots or by what they keep
 pub any_begun : (slots : List Slot) (id : ℕ) → list_any (λ (s : Slot). list_any (λ child. child == id) s.begun.items) slots ≡ list_any (λ (g : Guest). list_any (λ child. child == id) g.begun) (guests_of slots)
 any_begun [] id = refl
 any_begun (s ∷ ss) id = ap (λ b. list_any (λ child. child == id) s.begun.items || b) (any_begun ss id)
+
+-- an entry that is mapped, by slots or by what they keep
+pub any_mapped : (slots : List Slot) (granter r : ℕ) → list_any (λ (s : Slot). maps_entry s.sharing.handles granter r) slots ≡ list_any (λ (g : Guest). maps_entry g.handles granter r) (guests_of slots)
+any_mapped [] granter r = refl
+any_mapped (s ∷ ss) granter r = ap (λ b. maps_entry s.sharing.handles granter r || b) (any_mapped ss granter r)

@@ -1,7 +1,7 @@
 -- The value of the hypervisor's tables.
 use Rattle.std.specs.Prelude.{ℕ, List, [], map, Option}
 use Rattle.neph_model.specs.declared.life.Life.{Life}
-use Rattle.neph_model.specs.Machine.{Tables, Exposed, Shared, but_handles}
+use Rattle.neph_model.specs.Machine.{Tables, Exposed, Shared, but_shares}
 use Rattle.neph_rows.specs.Slots.{first_guest}
 
 -- who is live, and the hypervisor's tables
@@ -20,10 +20,10 @@ first_records lives next = record {
   tables = record { guests = map first_guest lives; next = next; waiting = [] };
 }
 
--- the records without the handles of the domains
-abbrev pub without_handles : Records → Records
-without_handles r = record r {
-  tables = record r.tables { guests = map but_handles r.tables.guests };
+-- the records without what the domains share
+abbrev pub without_shares : Records → Records
+without_shares r = record r {
+  tables = record r.tables { guests = map but_shares r.tables.guests };
 }
 
 -- what a shared half keeps beside its exposed pages

@@ -8,7 +8,7 @@ ghost use Rattle.neph_model.specs.Machine.{Exposed, guest_at, is_live, life_at, 
 ghost use Rattle.neph_model.specs.Step.{call_effect, locked};
 ghost use Rattle.neph_model.specs.Trap.{gmap_call, gunmap_call, hr_call, hw_call};
 ghost use Rattle.neph_model.specs.Trap.{has_ended, is_begun, map_at, mapped_page};
-ghost use Rattle.neph_rows.specs.Records.{shared_of, without_handles};
+ghost use Rattle.neph_rows.specs.Records.{shared_of, without_shares};
 ghost use Rattle.neph_rows.specs.declared.slots.Slot.{Slot};
 
 use crate::exposed_pages::ExposedPages;
@@ -24,7 +24,7 @@ pub fn gmap(r: &mut Registry, dom: DomId, granter: DomId, reference: GrantRef) -
     ensures row { (pages : List Exposed) → call_effect (shared_of r.old pages)
         (gmap_call (shared_of r.old pages) dom (guest_at dom r.old.tables) granter reference)
         ≡ locked (shared_of r.new pages) result }
-    ensures same { without_handles r.new ≡ without_handles r.old }
+    ensures same { without_shares r.new ≡ without_shares r.old }
 {
     if has_ended(r, granter) {
         return Reply::Refused(Refusal::Gone);
@@ -94,7 +94,7 @@ fn map_at(r: &mut Registry, dom: DomId, granter: DomId, reference: GrantRef, mod
         call_effect (shared_of r.old pages)
         (map_at (shared_of r.old pages) dom g granter reference mode (free_handle g.handles))
         ≡ locked (shared_of r.new pages) result }
-    ensures same { without_handles r.new ≡ without_handles r.old }
+    ensures same { without_shares r.new ≡ without_shares r.old }
 {
     match map(&mut r.slots, dom.get() as usize, granter, reference, mode) {
         Some(h) => Reply::Number(h.get()),
@@ -107,7 +107,7 @@ pub fn gunmap(r: &mut Registry, dom: DomId, h: Handle) -> Reply
     ensures row { (pages : List Exposed) → call_effect (shared_of r.old pages)
         (gunmap_call (shared_of r.old pages) dom (guest_at dom r.old.tables) h)
         ≡ locked (shared_of r.new pages) result }
-    ensures same { without_handles r.new ≡ without_handles r.old }
+    ensures same { without_shares r.new ≡ without_shares r.old }
 {
     if unmap(&mut r.slots, dom.get() as usize, h) {
         Reply::Done

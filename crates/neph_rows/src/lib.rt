@@ -5,6 +5,7 @@
 mod births;
 mod clone;
 mod exposed_pages;
+mod grants;
 mod handles;
 mod lent;
 mod live_ids;
@@ -17,6 +18,7 @@ mod trap;
 pub use births::{commit, end, join};
 pub use clone::{begin, clone_refusal, need, next_child};
 pub use exposed_pages::ExposedPages;
+pub use grants::ungrant;
 pub use lent::Lent;
 pub use registry::Registry;
 pub use trap::line;

@@ -1,13 +1,13 @@
 // What an id shares with others.
-ghost use Rattle.std.specs.Prelude.{◌≡◌, true, IfOk, IfSome, IfNone, is_some};
+ghost use Rattle.std.specs.Prelude.{◌≡◌, true, IfOk, IfSome, IfNone, OnOk, OnErr, is_some};
 ghost use Rattle.std.specs.Bool.{OnTrue, OnFalse};
 ghost use Rattle.std.specs.FinMap as map;
-ghost use Rattle.neph_grant.specs.Handles.{free_handle, with_mapping};
-ghost use Rattle.neph_grant.specs.Table.{admit_answer, device_grants};
+ghost use Rattle.neph_grant.specs.Handles.{free_handle, maps_entry, with_mapping};
+ghost use Rattle.neph_grant.specs.Table.{admit_answer, device_grants, end_answer, names_page};
 ghost use Rattle.neph_rows.specs.Shares.{no_shares};
 
 use neph_base::{DomId, GrantRef, Handle, Mode, NoMemory, Pfn};
-use neph_grant::{GrantEntry, GrantMapping, GrantTable, Handles, MapRefused};
+use neph_grant::{EndFault, GrantEntry, GrantMapping, GrantTable, Handles, MapRefused};
 use std::alloc::Global;
 use std::marker::Model;
 
@@ -76,6 +76,30 @@ impl Sharing {
         }
     }
 
+    /// Whether an entry names a page.
+    pub fn names(&self, p: Pfn) -> bool
+        ensures { result ≡ names_page self.now.grants p }
+    {
+        match &self.tables {
+            Some(tables) => tables.grants.names(p),
+            None => false,
+        }
+    }
+
+    /// Takes an entry away, and gives the page that it named. `mapped` tells whether a domain has
+    /// the entry mapped.
+    pub fn end(&mut self, r: GrantRef, mapped: bool) -> Result<Pfn, EndFault>
+        ensures answer { result ≡ end_answer self.old.grants r mapped }
+        ensures ok { OnOk result (self.new
+            ≡ record self.old { grants = map.remove self.old.grants r }) }
+        ensures err { OnErr result (self.new ≡ self.old) }
+    {
+        match &mut self.tables {
+            Some(tables) => tables.grants.end(r, mapped),
+            None => Err(EndFault::NoGrant),
+        }
+    }
+
     /// What the domain `me`, whose parent is `my_parent`, gets by mapping an entry of the granter,
     /// whose grants these are.
     pub fn admits(
@@ -106,6 +130,16 @@ impl Sharing {
             reference,
             mode,
         })
+    }
+
+    /// Whether a handle has this entry of the granter mapped.
+    pub fn maps(&self, granter: DomId, r: GrantRef) -> bool
+        ensures { result ≡ maps_entry self.now.handles granter r }
+    {
+        match &self.tables {
+            Some(tables) => tables.handles.maps(granter, r),
+            None => false,
+        }
     }
 
     /// Maps an entry of the granter at the least free handle, `None` exactly where all are held.

@@ -1,13 +1,15 @@
 // What is kept of each id.
-ghost use Rattle.std.specs.Prelude.{◌≡◌, ◌<◌, ◌+◌, ◌++◌, ◌∷◌, [], ℕ, true, false, List, All, IfOk, IfSome, IfNone, is_some, length, map, slice_set, slice_index_or};
+ghost use Rattle.std.specs.Prelude.{◌≡◌, ◌<◌, ◌+◌, ◌++◌, ◌∷◌, [], ℕ, true, false, List, All, IfOk, IfSome, IfNone, OnOk, OnErr, is_some, length, map, slice_set, slice_index_or};
 ghost use Rattle.std.specs.Bool.{OnTrue, OnFalse};
 ghost use Rattle.std.specs.FinMap as fm;
 ghost use Rattle.neph_grant.specs.Handles.{free_handle, with_mapping};
-ghost use Rattle.neph_model.specs.Machine.{no_guest, but_handles};
+ghost use Rattle.neph_grant.specs.Table.{end_answer};
+ghost use Rattle.neph_model.specs.Machine.{no_guest, but_shares};
 ghost use Rattle.neph_rows.specs.Slots.{guest_of, guests_of, rooms_of, first_guest, HasRoom};
 
 use crate::sharing::Sharing;
-use neph_base::{DomId, GrantRef, Handle, Mode, NoMemory};
+use neph_base::{DomId, GrantRef, Handle, Mode, NoMemory, Pfn};
+use neph_grant::EndFault;
 use neph_model::Life;
 use std::alloc::Global;
 
@@ -107,8 +109,8 @@ pub fn map(slots: &mut Vec<Slot>, at: usize, granter: DomId, r: GrantRef, m: Mod
         guests_of slots.new.items ≡ slice_set (guests_of slots.old.items) at
         (record g { handles = with_mapping g.handles h granter r m })) }
     ensures full { IfNone result (guests_of slots.new.items ≡ guests_of slots.old.items) }
-    ensures bare { map but_handles (guests_of slots.new.items)
-        ≡ map but_handles (guests_of slots.old.items) }
+    ensures bare { map but_shares (guests_of slots.new.items)
+        ≡ map but_shares (guests_of slots.old.items) }
     ensures rooms { rooms_of slots.new.items ≡ rooms_of slots.old.items }
     ensures room { All HasRoom slots.new.items }
 {
@@ -125,10 +127,33 @@ pub fn unmap(slots: &mut Vec<Slot>, at: usize, h: Handle) -> bool
         guests_of slots.new.items ≡ slice_set (guests_of slots.old.items) at
         (record g { handles = fm.remove g.handles h })) }
     ensures absent { OnFalse result (guests_of slots.new.items ≡ guests_of slots.old.items) }
-    ensures bare { map but_handles (guests_of slots.new.items)
-        ≡ map but_handles (guests_of slots.old.items) }
+    ensures bare { map but_shares (guests_of slots.new.items)
+        ≡ map but_shares (guests_of slots.old.items) }
     ensures rooms { rooms_of slots.new.items ≡ rooms_of slots.old.items }
     ensures room { All HasRoom slots.new.items }
 {
     slots[at].sharing.unmap(h)
+}
+
+/// Takes an entry of a domain away, and gives the page that it named.
+pub fn end_entry(
+    slots: &mut Vec<Slot>,
+    at: usize,
+    r: GrantRef,
+    mapped: bool,
+) -> Result<Pfn, EndFault>
+    requires there { at < length slots.old.items }
+    requires room { All HasRoom slots.old.items }
+    ensures answer { result
+        ≡ end_answer (slice_index_or (guests_of slots.old.items) at no_guest).grants r mapped }
+    ensures ok { OnOk result (let g = slice_index_or (guests_of slots.old.items) at no_guest in
+        guests_of slots.new.items ≡ slice_set (guests_of slots.old.items) at
+        (record g { grants = fm.remove g.grants r })) }
+    ensures err { OnErr result (guests_of slots.new.items ≡ guests_of slots.old.items) }
+    ensures bare { map but_shares (guests_of slots.new.items)
+        ≡ map but_shares (guests_of slots.old.items) }
+    ensures rooms { rooms_of slots.new.items ≡ rooms_of slots.old.items }
+    ensures room { All HasRoom slots.new.items }
+{
+    slots[at].sharing.end(r, mapped)
 }

@@ -4,7 +4,7 @@ ghost use Rattle.neph_model.specs.Machine.{is_live};
 ghost use Rattle.neph_model.specs.Step.{locked, shared_line};
 ghost use Rattle.neph_model.specs.Trap.{free_told};
 ghost use Rattle.neph_model.specs.WellFormed.{FitsPage};
-ghost use Rattle.neph_rows.specs.Records.{shared_of, without_handles};
+ghost use Rattle.neph_rows.specs.Records.{shared_of, without_shares};
 ghost use Rattle.neph_rows.specs.Row.{lent_of, MayBeAsked};
 
 use crate::births::end;
@@ -37,7 +37,7 @@ pub fn line<E: ExposedPages>(
     ensures fits { E.fits pages.new }
     ensures stays { command.now ≢ Command.Exit → E.stays pages.old pages.new }
     ensures left { command.now ≡ Command.Exit → E.left pages.old pages.new dom }
-    ensures same { command.now ≢ Command.Clone → command.now ≢ Command.Exit → without_handles r.new ≡ without_handles r.old }
+    ensures same { command.now ≢ Command.Clone → command.now ≢ Command.Exit → without_shares r.new ≡ without_shares r.old }
 {
     match command {
         Command::W { addr, bytes } => w_call(pages, dom, addr.offset(), bytes.bytes(), lent.met),
@@ -45,6 +45,7 @@ pub fn line<E: ExposedPages>(
         Command::Free => Reply::Number(free_told(told)),
         Command::Clone => clone_call(r, pages, dom, lent.leaves, told),
         Command::Exit => end(r, pages, dom),
+        Command::Ungrant { .. } => unreachable!(),
         Command::Gmap { granter, reference } => gmap(r, dom, *granter, *reference),
         Command::Gunmap { handle } => gunmap(r, dom, *handle),
         Command::Hr {
