@@ -50,6 +50,7 @@ module _ {Pool Seat : Type 0} (W : World Pool Seat) (p : Pool) (d : DomLocal Poo
   page_in_hand command.Exit i w e = absurd i
   page_in_hand command.Free i w e = absurd i
   page_in_hand command.Clone i w e = absurd i
+  page_in_hand (command.Ungrant ref) i w e = absurd i
   page_in_hand (command.Gmap granter ref) i w e = absurd i
   page_in_hand (command.Gunmap held) i w e = absurd i
   page_in_hand (command.Hr held at n) i w e = absurd i
@@ -66,6 +67,7 @@ module _ {Pool Seat : Type 0} (W : World Pool Seat) (p : Pool) (d : DomLocal Poo
   line_step s k o command.Exit i = absurd i
   line_step s k o command.Free i = absurd i
   line_step s k o command.Clone i = absurd i
+  line_step s k o (command.Ungrant ref) i = absurd i
   line_step s k o (command.Gmap granter ref) i = absurd i
   line_step s k o (command.Gunmap held) i = absurd i
   line_step s k o (command.Hr held at n) i = absurd i
@@ -92,6 +94,7 @@ module _ {Pool Seat : Type 0} (W : World Pool Seat) (p : Pool) (d : DomLocal Poo
     row_in_hand command.Exit i o m = absurd i
     row_in_hand command.Free i o m = absurd i
     row_in_hand command.Clone i o m = absurd i
+    row_in_hand (command.Ungrant ref) i o m = absurd i
     row_in_hand (command.Gmap granter ref) i o m = absurd i
     row_in_hand (command.Gunmap held) i o m = absurd i
     row_in_hand (command.Hr held at n) i o m = absurd i

@@ -24,7 +24,6 @@ use Rattle.neph_memory.specs.declared.write.Write.{Write}
 use Rattle.neph_memory.specs.Domains.{IsUnchanged}
 use Rattle.neph_memory.specs.OwnHalf.{IsMemoryOf}
 use Rattle.neph_memory.specs.Pages.{frame_at}
-use Rattle.neph_hyper.specs.Guests.{MayTrap}
 use Rattle.neph_guest.specs.declared.live.Live.{Live}
 use Rattle.neph_guest.specs.declared.live.Stage.{Stage}
 use Rattle.neph_guest.specs.declared.live.Stage.TheVariants.{Ready, Copying, Forking}
@@ -33,7 +32,7 @@ use Rattle.neph_guest.specs.declared.row.LocalTurn.{LocalTurn}
 use Rattle.neph_guest.specs.declared.row.LocalTurn.TheVariants as turn
 use Rattle.neph_guest.specs.OwnHalf.{IsOwnHalf}
 use Rattle.neph_guest.specs.Turned.{HasLacked, HasTried, IsAlone}
-use Rattle.neph_guest.specs.Turns.{HandDone, HeldSpare, IsLineInHand, IsMap, IsWithoutSpare, LookDone, PlaceDone, TurnDoneOrLacks, WaitsForFrame, spare_after, stage_after}
+use Rattle.neph_guest.specs.Turns.{HandDone, HeldSpare, IsLineInHand, IsMap, IsWithoutSpare, LookDone, MayAsk, PlaceDone, TurnDoneOrLacks, WaitsForFrame, spare_after, stage_after}
 
 -- an answer of want of memory
 pub err_is : {A : Type 0} (r : Result A NoMemory) (n : NoMemory) → IsErr r → r ≡ Err n
@@ -65,9 +64,9 @@ mapped_low o v to past at (inl lt) = lt
 mapped_low o v to past at (inr le) = let z : None ≡ Some to = sym (past le) ∙ at in absurd (cc)
 
 -- what the own half of a memory can't do may be asked of a hypervisor
-pub asks_may : {Pool Seat : Type 0} (W : World Pool Seat) (p : Pool) (d : DomLocal Pool Seat) (o : Own) → IsMemoryOf W p d o.pages o.vmap o.leaves → (s : Script) (n : ℕ) (c : Command) → c ≢ command.Exit → local_step s n o Enough c ≡ None → MayTrap W p d c
+pub asks_may : {Pool Seat : Type 0} (W : World Pool Seat) (p : Pool) (d : DomLocal Pool Seat) (o : Own) → IsMemoryOf W p d o.pages o.vmap o.leaves → (s : Script) (n : ℕ) (c : Command) → c ≢ command.Exit → local_step s n o Enough c ≡ None → MayAsk W p d c
 asks_may W p d o mem s n (command.R addr len) far e = by (mapping_at o addr) refl (no_map (settle o) (r_step o (addr % 4096) len (mapping_at o addr)) e) where
-  by : (m : Option Mapping) → mapping_at o addr ≡ m → r_step o (addr % 4096) len m ≡ None → MayTrap W p d (command.R addr len)
+  by : (m : Option Mapping) → mapping_at o addr ≡ m → r_step o (addr % 4096) len m ≡ None → MayAsk W p d (command.R addr len)
   by None at k = absurd (cc)
   by (Some to) at k =
       let lt = mapped_low o (addr / 4096) to (mem.past (addr / 4096)) at (cases_lt (addr / 4096) (2 ^ 18)) in
@@ -130,7 +129,7 @@ module _ {Pool Seat : Type 0} (W : World Pool Seat) (p : Pool) (l : Live Pool Se
   lacks_room t o h lt = line_kept o h (t.done (script_of program) 0 o refl h).1 lt
 
   -- it may ask its line of a hypervisor
-  pub asks_trap : HasTried W p l q m program c turn.Asks → (o : Own) → IsOwnHalf W p l o → c ≢ command.Exit → MayTrap W q m.local c
+  pub asks_trap : HasTried W p l q m program c turn.Asks → (o : Own) → IsOwnHalf W p l o → c ≢ command.Exit → MayAsk W q m.local c
   asks_trap t o h far =
       let done = t.done (script_of program) 0 o refl h in
       asks_may W q m.local o done.1.own.memory (script_of program) 0 c far done.0

@@ -42,6 +42,7 @@ module _ {Pool Seat : Type 0} (W : World Pool Seat) (p : Pool) (d : DomLocal Poo
   line_kept command.Exit map pages hand i = absurd i
   line_kept command.Free map pages hand i = absurd i
   line_kept command.Clone map pages hand i = absurd i
+  line_kept (command.Ungrant ref) map pages hand i = absurd i
   line_kept (command.Gmap granter ref) map pages hand i = absurd i
   line_kept (command.Gunmap held) map pages hand i = absurd i
   line_kept (command.Hr held at n) map pages hand i = absurd i

@@ -58,6 +58,7 @@ module _ {Pool Seat : Type 0} (W : World Pool Seat) (p : Pool) (l : Live Pool Se
   jump_spare command.Exit t j = absurd j
   jump_spare command.Free t j = absurd j
   jump_spare command.Clone t j = absurd j
+  jump_spare (command.Ungrant ref) t j = absurd j
   jump_spare (command.Gmap granter ref) t j = absurd j
   jump_spare (command.Gunmap held) t j = absurd j
   jump_spare (command.Hr held at n) t j = absurd j
@@ -74,6 +75,7 @@ module _ {Pool Seat : Type 0} (W : World Pool Seat) (p : Pool) (l : Live Pool Se
   jump_look command.Exit t j = absurd j
   jump_look command.Free t j = absurd j
   jump_look command.Clone t j = absurd j
+  jump_look (command.Ungrant ref) t j = absurd j
   jump_look (command.Gmap granter ref) t j = absurd j
   jump_look (command.Gunmap held) t j = absurd j
   jump_look (command.Hr held at n) t j = absurd j
@@ -90,6 +92,7 @@ module _ {Pool Seat : Type 0} (W : World Pool Seat) (p : Pool) (l : Live Pool Se
   jump_held command.Exit t j = absurd j
   jump_held command.Free t j = absurd j
   jump_held command.Clone t j = absurd j
+  jump_held (command.Ungrant ref) t j = absurd j
   jump_held (command.Gmap granter ref) t j = absurd j
   jump_held (command.Gunmap held) t j = absurd j
   jump_held (command.Hr held at n) t j = absurd j

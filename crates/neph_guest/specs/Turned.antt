@@ -17,7 +17,7 @@ use Rattle.neph_memory.specs.declared.dom_local.DomLocal.{DomLocal}
 use Rattle.neph_memory.specs.Domains.{IsStanding, IsUnchanged, KeepsSeats}
 use Rattle.neph_local.specs.declared.forking.Fork.{Fork}
 use Rattle.neph_hyper.specs.Calls.{Calls}
-use Rattle.neph_hyper.specs.Guests.{IsAnswered, TakesSpare}
+use Rattle.neph_hyper.specs.Guests.{IsAnswered, IsUngranted, TakesSpare}
 use Rattle.neph_guest.specs.declared.live.Live.{Live}
 use Rattle.neph_guest.specs.declared.live.Stage.{Stage}
 use Rattle.neph_guest.specs.declared.live.Stage.TheVariants.{Ready, Copying, Forking}
@@ -126,6 +126,21 @@ module _ {Pool Seat H : Type 0} (W : World Pool Seat) (C : Calls Pool Seat H) (p
     pub trapped : C.Trapped p h l.local c q k local begun answer
     pub after : TrapDone W q (record l { local = local }) m answer t
 
+  -- it has asked to take an entry of this reference away, and its memory is `local` behind that
+  pub record HasUngranted (r : ℕ) (t : Turned) : Type 0 where
+    pub local : DomLocal Pool Seat
+    pub answer : Reply
+    pub stands : IsStanding W q local
+    pub row : IsUngranted W p l.local q local r answer
+    pub ungranted : C.Ungranted p h l.local r q k local answer
+    pub told : t ≡ Did answer
+    pub after : IsBehind W q (record l { local = local }) m answer
+
+  -- it has asked its line, of this command, and a clone has begun with this fork, if any
+  abbrev pub HasAsked : Command → Option (Fork Pool Seat) → Result Turned NoMemory → Type 0
+  HasAsked (command.Ungrant r) begun t = IfOk t (HasUngranted r) × (begun ≡ None) × OnErr t ⊥
+  HasAsked c begun t = HasTrapped c begun t
+
   -- nothing has changed
   pub record HasRested : Type 0 where
     pub pool : q ≡ p
@@ -143,7 +158,7 @@ module _ {Pool Seat H : Type 0} (W : World Pool Seat) (C : Calls Pool Seat H) (p
       (t ≡ Ok Moves) × (begun ≡ None) × HasRested W C o h n q k m
   LineFollows o n c turn.LacksFrame begun t =
       IfOk t (λ did. HasSpared W C o h n q k m did) × (begun ≡ None) × OnErr t ⊥
-  LineFollows o n c turn.Asks begun t = HasTrapped W C o h n q k m c begun t
+  LineFollows o n c turn.Asks begun t = HasAsked W C o h n q k m c begun t
 
   -- it has tried its line by itself, and gone on from there
   pub record HasGone (program : Program) (c : Command) (begun : Option (Fork Pool Seat))

@@ -25,6 +25,7 @@ use Rattle.neph_memory.specs.declared.write.WriteStep.TheVariants as step
 use Rattle.neph_memory.specs.declared.fault.MapFault.{MapFault}
 use Rattle.neph_memory.specs.declared.fault.MapFault.TheVariants as fault
 use Rattle.neph_base.specs.declared.memory.NoMemory.{NoMemory}
+use Rattle.neph_hyper.specs.Guests.{MayTrap}
 use Rattle.neph_guest.specs.declared.live.Guest.{Guest}
 use Rattle.neph_guest.specs.declared.live.Stage.{Stage}
 use Rattle.neph_guest.specs.declared.live.Stage.TheVariants.{Ready, Copying, Forking}
@@ -253,6 +254,12 @@ module _ {Pool Seat : Type 0} (W : World Pool Seat) (p : Pool) (d : DomLocal Poo
   abbrev pub PlaceDone : CopyTurn → Type 0
   PlaceDone (copy.Did reply) = IfSome d.hand (λ h. HasWritten h.pfn)
   PlaceDone copy.LacksFrame = IfSome d.hand (λ h. WaitsForFrame h.pfn)
+
+-- the hypervisor may be asked to do the command, by its trap or to take an entry away
+abbrev pub MayAsk : {Pool Seat : Type 0} → World Pool Seat → Pool → DomLocal Pool Seat → Command
+    → Type 0
+MayAsk W p d (command.Ungrant r) = ⊤
+MayAsk W p d c = MayTrap W p d c
 
 -- a row has refused or done a command of the own half o, which is then `new`
 abbrev pub Settles : (Own → Type 0) → Own × Reply → Reply → Type 0

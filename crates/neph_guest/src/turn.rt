@@ -8,8 +8,8 @@ ghost use Rattle.neph_memory.specs.Domains.{IsStanding};
 ghost use Rattle.neph_hyper.specs.Calls.{Calls};
 ghost use Rattle.neph_hyper.specs.Guests.{MayTrap};
 ghost use Rattle.neph_guest.specs.OwnHalf.{IsOwnHalf};
-ghost use Rattle.neph_guest.specs.Turns.{HasLeafRoom, IsLineInHand};
-ghost use Rattle.neph_guest.specs.Turned.{HasTried, HasLacked, HasSpared, HasTrapped, HasCopied, HasDone, HasTurned};
+ghost use Rattle.neph_guest.specs.Turns.{HasLeafRoom, IsLineInHand, MayAsk};
+ghost use Rattle.neph_guest.specs.Turned.{HasTried, HasLacked, HasSpared, HasTrapped, HasUngranted, HasAsked, HasCopied, HasDone, HasTurned};
 
 use crate::copying::copy_turn;
 use crate::going::{go_on, refuse};
@@ -17,7 +17,7 @@ use crate::live::{Live, Stage};
 use crate::local::local_turn;
 use crate::row::{CopyTurn, LocalTurn};
 use crate::turned::Turned;
-use neph_base::{Command, NoMemory, Refusal, Reply};
+use neph_base::{Command, GrantRef, NoMemory, Refusal, Reply};
 use neph_hyper::Hyper;
 use neph_local::Fork;
 use neph_model::Program;
@@ -109,7 +109,7 @@ fn ready_turn<P: FramePool, H: Hyper<P>>(
         Ok(LocalTurn::Did(reply)) => Ok(Turned::Did(reply)),
         Ok(LocalTurn::Copies) => Ok(Turned::Moves),
         Ok(LocalTurn::LacksFrame) => Ok(spare_turn(live, hv, pool)),
-        Ok(LocalTurn::Asks) => trap_turn(live, hv, pool, command, begun),
+        Ok(LocalTurn::Asks) => ask_turn(live, hv, pool, command, begun),
         Err(lacks) => Err(lacks),
     }
 }
@@ -170,6 +170,47 @@ fn spare_turn<P: FramePool, H: Hyper<P>>(live: &mut Live<P>, hv: &mut H, pool: &
 }
 
 // A guest asks its line of the hypervisor.
+fn ask_turn<P: FramePool, H: Hyper<P>>(
+    live: &mut Live<P>,
+    hv: &mut H,
+    pool: &mut P,
+    command: &Command,
+    begun: &mut Option<Fork<P>>,
+) -> Result<Turned, NoMemory>
+    requires serves { H.calls.Serves pool.old hv.old live.old.local }
+    requires stands { IsStanding P.world pool.old live.old.local }
+    requires fits { FitsPage command.now }
+    requires asks { MayAsk P.world pool.old live.old.local command.now }
+    requires room { live.old.guest.line < 65535 }
+    requires none { begun.old ≡ None }
+    ensures { HasAsked P.world H.calls pool.old hv.old live.old pool.new hv.new live.new
+        command.now begun.new result }
+{
+    match command {
+        Command::Ungrant { reference } => Ok(ungrant_turn(live, hv, pool, *reference)),
+        _ => trap_turn(live, hv, pool, command, begun),
+    }
+}
+
+// A guest asks the hypervisor to take an entry of its grants away.
+fn ungrant_turn<P: FramePool, H: Hyper<P>>(
+    live: &mut Live<P>,
+    hv: &mut H,
+    pool: &mut P,
+    reference: GrantRef,
+) -> Turned
+    requires serves { H.calls.Serves pool.old hv.old live.old.local }
+    requires stands { IsStanding P.world pool.old live.old.local }
+    requires room { live.old.guest.line < 65535 }
+    ensures { HasUngranted P.world H.calls pool.old hv.old live.old pool.new hv.new live.new
+        reference result }
+{
+    let reply = hv.ungrant(pool, &mut live.local, reference);
+    go_on(pool, live, &reply);
+    Turned::Did(reply)
+}
+
+// A guest asks a line by which no page comes home of the hypervisor.
 fn trap_turn<P: FramePool, H: Hyper<P>>(
     live: &mut Live<P>,
     hv: &mut H,

@@ -79,7 +79,7 @@ but_no : (q : ℕ) (x : ExposedFrame) (xs : List ExposedFrame) → x.pfn ≢ q �
 but_no q x xs n = rw (ne_eqb x.pfn q n) refl
 
 -- the frame of a number among the others
-but_frame : (p q : ℕ) (xs : List ExposedFrame) → frame_in q (pages_but p xs) ≡ cond (eq_by_cmp nat_cmp q p) None (frame_in q xs)
+pub but_frame : (p q : ℕ) (xs : List ExposedFrame) → frame_in q (pages_but p xs) ≡ cond (eq_by_cmp nat_cmp q p) None (frame_in q xs)
 but_frame p q xs = elim (same_or_not q p) [
   | inl s ↦ rw (unsigned_tied q p, eq-eqb q p s) (gone q xs s)
   | inr n ↦ rw (unsigned_tied q p, ne_eqb q p n) (kept q xs n)

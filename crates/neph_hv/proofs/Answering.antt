@@ -16,12 +16,12 @@ use Rattle.neph_local.specs.declared.forking.Fork.{Fork}
 use Rattle.neph_local.specs.Copies.{IsChildOf}
 use Rattle.neph_local.proofs.Tallying.{leaves_counted}
 use Rattle.neph_hyper.specs.Guests.{IsAnswered, IsCommitted}
-use Rattle.neph_rows.specs.Records.{without_handles}
+use Rattle.neph_rows.specs.Records.{without_shares}
 use Rattle.neph_hv.specs.declared.hv.Hv.{Hv}
-use Rattle.neph_hv.specs.Hv.{lent_leaves, shared_in}
+use Rattle.neph_hv.specs.Hv.{IsCall, lent_leaves, shared_in}
 use Rattle.neph_hv.specs.Begins.{IsCloneRow, IsRefused}
 use Rattle.neph_hv.specs.Serving.{told_in}
-use Rattle.neph_hv.specs.Calls.{IsCall, IsTrapRow, HasDone, HasTrapped}
+use Rattle.neph_hv.specs.Calls.{IsTrapRow, HasDone, HasTrapped}
 
 module _ {Pool Seat : Type 0} (W : World Pool Seat) (p : Pool) (h : Hv Pool Seat) (d : DomLocal Pool Seat) (q : Pool) (k : Hv Pool Seat) (e : DomLocal Pool Seat) where
   -- the row of a clone, which is lent how many leaf tables there are
@@ -34,7 +34,7 @@ module _ {Pool Seat : Type 0} (W : World Pool Seat) (p : Pool) (h : Hv Pool Seat
     call = call;
     row = clone_row (reply.Refused why) r.row;
     kept = record {
-      registry = ap (λ (v : Hv Pool Seat). without_handles v.registry) r.same;
+      registry = ap (λ (v : Hv Pool Seat). without_shares v.registry) r.same;
       stock = ap (λ (v : Hv Pool Seat). v.heap.stock) r.same;
       names = ap (λ (v : Hv Pool Seat). W.names v.heap.seat) r.same;
     };

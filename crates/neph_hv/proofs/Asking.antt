@@ -23,7 +23,7 @@ use Rattle.neph_memory.proofs.Relisting.{mapped_small}
 use Rattle.neph_memory.proofs.Standing.{stands_spared}
 use Rattle.neph_local.proofs.Stepping.{unchanged_trans, unchanged_spared}
 use Rattle.neph_ptab.specs.Tables.{walk_at}
-use Rattle.neph_rows.specs.Records.{shared_of, without_handles}
+use Rattle.neph_rows.specs.Records.{shared_of, without_shares}
 use Rattle.neph_rows.specs.Row.{MayBeAsked, MeetsExposed}
 use Rattle.neph_heap.proofs.Heaps.{spares_then}
 use Rattle.neph_heap.proofs.Maps.{shown_is}
@@ -73,6 +73,7 @@ module _ {Pool Seat : Type 0} (W : World Pool Seat) (p : Pool) (h : Hv Pool Seat
   -- it may be asked
   pub may_ask : (c : Command) (m : Option Mapping) → MayTrap W p d c → IsReadMet W p d c m → MayBeAsked (exposed_in W q h) e.id m c
   may_ask (command.R addr len) m may met = subst (MeetsExposed (exposed_in W q h) e.id) (sym (met.0 ∙ may.maps)) (away_shown (addr / 4096) may.to met.1 may.maps may.away)
+  may_ask (command.Ungrant r) m may met = may
   may_ask _ m may met = tt
 
   -- and behind its call
@@ -83,7 +84,7 @@ module _ {Pool Seat : Type 0} (W : World Pool Seat) (p : Pool) (h : Hv Pool Seat
     pub asked_same : IsUnchanged W p d r e
     asked_same = unchanged_trans W p d q e r e same (unchanged_spared W (W.names h.heap.seat) q r e same.fits call.others apart_now)
 
-    pub asked_done : (hv : IsHv W r k) (shares : W.shares r ≡ W.shares p) (registry : without_handles k.registry ≡ without_handles h.registry) (stock : k.heap.stock ≡ h.heap.stock) (c : Command) (m : Option Mapping) (told : Told) (y : Reply)
+    pub asked_done : (hv : IsHv W r k) (shares : W.shares r ≡ W.shares p) (registry : without_shares k.registry ≡ without_shares h.registry) (stock : k.heap.stock ≡ h.heap.stock) (c : Command) (m : Option Mapping) (told : Told) (y : Reply)
         → c ≢ command.Clone → ((o : Own) → IsMemoryOf W p d o.pages o.vmap o.leaves → (lent o c).met ≡ m) → told ≡ told_in (length h.heap.stock.free) c
         → shared_line (shared_in W q h) e.id (record nothing_lent { met = m }) told c ≡ locked (shared_in W r k) y → HasDone W p h r k d e c y
     asked_done hv shares registry stock c m told y far met is row =

@@ -4,3 +4,4 @@ pub mod Beginning
 pub mod Committing
 pub mod Asking
 pub mod Answering
+pub mod Granting

@@ -11,17 +11,18 @@ use Rattle.neph_model.specs.Lent.{lent}
 use Rattle.neph_model.specs.Machine.{Exposed, guest_at}
 use Rattle.neph_model.specs.Step.{is_paused, locked, shared_line, shared_commit}
 use Rattle.neph_pool.specs.Names.{both_names}
-use Rattle.neph_pool.specs.World.{World, Spares, Stays}
+use Rattle.neph_pool.specs.World.{World, Stays}
 use Rattle.neph_memory.specs.declared.dom_local.DomLocal.{DomLocal}
 use Rattle.neph_memory.specs.OwnHalf.{IsMemoryOf}
 use Rattle.neph_local.specs.declared.forking.Fork.{Fork}
 use Rattle.neph_local.specs.Forks.{Forks}
-use Rattle.neph_rows.specs.Records.{shared_of, without_handles}
+use Rattle.neph_rows.specs.Records.{shared_of, without_shares}
 use Rattle.neph_heap.specs.Heap.{IsBorn}
 use Rattle.neph_hyper.specs.Calls.{Calls}
 use Rattle.neph_hv.specs.declared.hv.Hv.{Hv}
-use Rattle.neph_hv.specs.Hv.{IsHv, shared_in, lists_ended}
+use Rattle.neph_hv.specs.Hv.{IsCall, shared_in, lists_ended}
 use Rattle.neph_hv.specs.Begins.{IsBegun}
+use Rattle.neph_hv.specs.Grants.{HasUngranted}
 use Rattle.neph_hv.specs.Serving.{IsServed, MayCommit, told_in}
 
 -- it pauses the domain of an id, by its tables
@@ -31,22 +32,15 @@ IsPausing h id b = (pages : List Exposed) → b ≡ is_paused id (shared_of h.re
 -- from the hypervisor h in the pool p to the hypervisor k in the pool q
 module _ {Pool Seat : Type 0} (W : World Pool Seat) (p : Pool) (h : Hv Pool Seat) (q : Pool)
     (k : Hv Pool Seat) where
-  -- Its frames are in order, only seats of its names and of these have changed, and nothing was
-  -- shared.
-  pub record IsCall (ns : ℕ → Bool) : Type 0 where
-    pub hv : IsHv W q k
-    pub others : Spares W (both_names (W.names h.heap.seat) ns) p q
-    pub shares : W.shares q ≡ W.shares p
-
-  -- its tables but for handles, its lists and its names are as they were
+  -- its tables but for what domains share, its lists and its names are as they were
   pub record KeepsTables : Type 0 where
-    pub registry : without_handles k.registry ≡ without_handles h.registry
+    pub registry : without_shares k.registry ≡ without_shares h.registry
     pub stock : k.heap.stock ≡ h.heap.stock
     pub names : W.names k.heap.seat ≡ W.names h.heap.seat
 
   -- the end of the domain d
   pub record HasEnded (d : DomLocal Pool Seat) : Type 0 where
-    pub call : IsCall (W.names d.seat)
+    pub call : IsCall W p h q k (W.names d.seat)
     pub row : end_domain (shared_in W p h) d.id ≡ shared_in W q k
     pub frames : List ℕ
     pub stock : k.heap.stock ≡ lists_ended h.heap.stock d.id frames
@@ -62,20 +56,20 @@ module _ {Pool Seat : Type 0} (W : World Pool Seat) (p : Pool) (h : Hv Pool Seat
 
     -- a command that was done or refused
     pub record HasDone (c : Command) (r : Reply) : Type 0 where
-      pub call : IsCall (W.names d.seat)
+      pub call : IsCall W p h q k (W.names d.seat)
       pub row : IsTrapRow c r
       pub kept : KeepsTables
 
     -- a clone that has begun, with this fork and this reply
     pub record HasBegun (c : Command) (fork : Fork Pool Seat) (r : Reply) : Type 0 where
-      pub call : IsCall (W.names d.seat)
+      pub call : IsCall W p h q k (W.names d.seat)
       pub clone : c ≡ command.Clone
       pub told : r ≡ reply.Begun fork.child
       pub begun : IsBegun W p h d q k e fork
 
     -- a clone that found no memory
     pub record HasLacked : Type 0 where
-      pub call : IsCall (W.names d.seat)
+      pub call : IsCall W p h q k (W.names d.seat)
       pub kept : KeepsTables
       pub shared : shared_in W q k ≡ shared_in W p h
 
@@ -88,7 +82,7 @@ module _ {Pool Seat : Type 0} (W : World Pool Seat) (p : Pool) (h : Hv Pool Seat
 
     -- a free frame was given, or there is none
     pub record HasSpared (took : Bool) : Type 0 where
-      pub call : IsCall (W.names d.seat)
+      pub call : IsCall W p h q k (W.names d.seat)
       pub none : took ≡ false → h.heap.stock.free ≡ []
       pub free : h.heap.stock.free ≡ k.heap.stock.free ++ option_to_list e.own.spare
       pub stock : k.heap.stock ≡ record h.heap.stock { free = k.heap.stock.free }
@@ -118,7 +112,7 @@ module _ {Pool Seat : Type 0} (W : World Pool Seat) (p : Pool) (h : Hv Pool Seat
     -- a commit of this fork
     pub record HasCommitted (fork : Fork Pool Seat)
         (made : Result (DomLocal Pool Seat × Reply) (Fork Pool Seat)) : Type 0 where
-      pub call : IsCall (both_names (W.names d.seat) (W.names fork.seat))
+      pub call : IsCall W p h q k (both_names (W.names d.seat) (W.names fork.seat))
       pub names : W.names k.heap.seat ≡ W.names h.heap.seat
       pub born : IsBornOrNot fork made
 
@@ -129,6 +123,7 @@ hv_calls W = record {
   Serves = λ p h d. IsServed W p h d;
   MayCommit = λ p h d fork. MayCommit W p h d fork;
   Trapped = λ p h d c q k e begun answer. HasTrapped W p h q k d e c begun answer;
+  Ungranted = λ p h d r q k e y. HasUngranted W p h d q k e r y;
   Spared = λ p h d q k e took. HasSpared W p h q k d e took;
   Committed = λ p h d fork q k e made. HasCommitted W p h q k d e fork made;
   Ended = λ p h d q k. HasEnded W p h q k d;

@@ -2,9 +2,12 @@
 use Rattle.std.proofs.Common.{sym, subst}
 use Rattle.std.specs.Prelude.{◌≡◌, ◌<◌, ◌≤◌, ◌/◌, ◌^◌, ⊤, ℕ, Bool, true, [], List, is_some, length, None, Some, slice_get}
 use Rattle.std.specs.declared.option.Option.{Option}
+use Rattle.std.specs.FinMap as fm
 use Rattle.neph_base.specs.declared.command.Command.{Command}
 use Rattle.neph_base.specs.declared.command.Command.TheVariants as command
 use Rattle.neph_base.specs.declared.sizes.TheConstants.{PAGE_BYTES}
+use Rattle.neph_grant.specs.declared.entry.GrantEntry.{GrantEntry}
+use Rattle.neph_grant.specs.Table.{Grants}
 use Rattle.neph_model.specs.declared.memory.Mapping.{Mapping}
 use Rattle.neph_model.specs.declared.told.Told.{Told}
 use Rattle.neph_model.specs.declared.told.Told.TheVariants.{Enough, Free}
@@ -12,6 +15,7 @@ use Rattle.neph_model.specs.Machine.{guest_at, is_live}
 use Rattle.neph_pool.specs.Names.{IsApart}
 use Rattle.neph_pool.specs.World.{World}
 use Rattle.neph_gmap.specs.declared.page.Page.{Page}
+use Rattle.neph_gmap.specs.declared.page.Page.TheVariants.{Exposed}
 use Rattle.neph_memory.specs.declared.dom_local.DomLocal.{DomLocal}
 use Rattle.neph_memory.specs.declared.room.TheConstants.{MAX_HELD}
 use Rattle.neph_memory.specs.Domains.{domain_mapping}
@@ -35,6 +39,15 @@ abbrev pub HasAway : Lists → ℕ → List Page → Type 0
 HasAway stock id pages = (pfn : ℕ) → pfn < length pages → frame_at pages pfn ≡ None
     → is_some (frame_in pfn (exposed_of id stock)) ≡ true
 
+-- a page of a domain is exposed, and isn't its own
+pub record IsAway (stock : Lists) (id : ℕ) (pages : List Page) (pfn : ℕ) : Type 0 where
+  pub exposed : is_some (frame_in pfn (exposed_of id stock)) ≡ true
+  pub away : slice_get pages pfn ≡ Some Exposed
+
+-- each page that an entry of these grants of a domain names is so
+abbrev pub HasGranted : Lists → Grants → ℕ → List Page → Type 0
+HasGranted stock t id pages = (r : ℕ) (e : GrantEntry) → fm.get t r ≡ Some e → IsAway stock id pages e.pfn
+
 -- a read met what its address maps to, which is an address of the guest's
 abbrev pub IsReadMet : {Pool Seat : Type 0} → World Pool Seat → Pool → DomLocal Pool Seat → Command
     → Option Mapping → Type 0
@@ -44,11 +57,14 @@ IsReadMet W p d _ met = ⊤
 
 module _ {Pool Seat : Type 0} (W : World Pool Seat) where
   -- The domain is live. The hypervisor's frames are in order, its seat is another than the
-  -- domain's, and it has the pages that aren't the domain's own. The next id is its own still, with nothing put aside.
+  -- domain's, and it has the pages that aren't the domain's own, among them those that the domain
+  -- has granted. The next id is its own still, with nothing put aside.
   pub record IsServed (p : Pool) (h : Hv Pool Seat) (d : DomLocal Pool Seat) : Type 0 where
     pub hv : IsHv W p h
     pub apart : IsApart (W.names h.heap.seat) (W.names d.seat)
     pub away : HasAway h.heap.stock d.id d.own.map.pages
+    pub granted : HasGranted h.heap.stock (guest_at d.id h.registry.tables).grants d.id
+        d.own.map.pages
     pub cap : MAX_HELD ≤ W.cap p
     pub name : h.registry.tables.next < 64
         → W.names h.heap.seat h.registry.tables.next ≡ true
@@ -82,6 +98,8 @@ module _ {Pool Seat : Type 0} (W : World Pool Seat) where
         apart = subst (IsApart (W.names seat)) (sym g.moves.names) s.apart;
         away = subst (HasAway h.heap.stock e.id) (sym g.pages)
             (subst (λ (i : ℕ). HasAway h.heap.stock i d.own.map.pages) (sym g.id) s.away);
+        granted = subst (HasGranted h.heap.stock (guest_at e.id h.registry.tables).grants e.id) (sym g.pages)
+            (subst (λ (i : ℕ). HasGranted h.heap.stock (guest_at i h.registry.tables).grants i d.own.map.pages) (sym g.id) s.granted);
         cap = subst (λ (n : ℕ). MAX_HELD ≤ n) (sym others.cap) s.cap;
         name = s.name;
         none = s.none;

@@ -6,7 +6,7 @@ ghost use Rattle.neph_model.specs.WellFormed.{FitsPage};
 ghost use Rattle.neph_pool.specs.Names.{IsApart, both_names};
 ghost use Rattle.neph_pool.specs.World.{World, Moves, Spares, Stays};
 ghost use Rattle.neph_memory.specs.Domains.{IsStanding, KeepsPages, KeepsMap, KeepsLeaves};
-ghost use Rattle.neph_rows.specs.Records.{shared_of, without_handles};
+ghost use Rattle.neph_rows.specs.Records.{shared_of, without_shares};
 ghost use Rattle.neph_rows.specs.Row.{lent_of, MayBeAsked};
 ghost use Rattle.neph_hv.specs.Hv.{IsHv, exposed_in, shared_in};
 
@@ -87,8 +87,8 @@ impl<P: FramePool> Hv<P> {
         ensures row { shared_line (shared_in P.world pool.old self.old) dom
             (lent_of lent) told command.now
             ≡ locked (shared_in P.world pool.new self.new) result }
-        ensures registry { without_handles self.new.registry
-            ≡ without_handles self.old.registry }
+        ensures registry { without_shares self.new.registry
+            ≡ without_shares self.old.registry }
         ensures stock { self.new.heap.stock ≡ self.old.heap.stock }
         ensures moves { Moves P.world pool.old self.old.heap.seat pool.new self.new.heap.seat }
         ensures shares { P.world.shares pool.new ≡ P.world.shares pool.old }

@@ -10,7 +10,7 @@ ghost use Rattle.neph_hv.specs.Calls.{HasTrapped, HasCommitted, HasEnded};
 
 use crate::begin::Begin;
 use crate::hv::Hv;
-use neph_base::{Command, DomId, NoMemory, Reply};
+use neph_base::{Command, DomId, GrantRef, NoMemory, Reply};
 use neph_hyper::Hyper;
 use neph_local::Fork;
 use neph_memory::DomLocal;
@@ -40,6 +40,10 @@ impl<P: FramePool> Hyper<P> for Hv<P> {
             Command::Clone => self.try_clone(pool, d, begun),
             _ => Ok(self.ask(pool, d, command)),
         }
+    }
+
+    fn ungrant(&mut self, pool: &mut P, d: &mut DomLocal<P>, reference: GrantRef) -> Reply {
+        Hv::ungrant(self, pool, d, reference)
     }
 
     fn spare(&mut self, pool: &mut P, d: &mut DomLocal<P>) -> bool {

@@ -6,6 +6,7 @@ mod ask;
 mod begin;
 mod commit;
 mod end;
+mod grants;
 mod hv;
 mod hyper;
 

@@ -18,6 +18,9 @@ pub record Calls (Pool Seat H : Type 0) : Type 1 where
   -- a trap of this command, which began a clone with this fork, if any, and was answered so
   pub Trapped : Pool → H → DomLocal Pool Seat → Command → Pool → H → DomLocal Pool Seat
       → Option (Fork Pool Seat) → Result Reply NoMemory → Type 0
+  -- an entry of this reference was taken away from the domain's grants, or the call refused, with
+  -- this reply
+  pub Ungranted : Pool → H → DomLocal Pool Seat → ℕ → Pool → H → DomLocal Pool Seat → Reply → Type 0
   -- a frame was asked for, and given or not
   pub Spared : Pool → H → DomLocal Pool Seat → Pool → H → DomLocal Pool Seat → Bool → Type 0
   -- a commit of this fork, which gave the child with a reply, or the fork back

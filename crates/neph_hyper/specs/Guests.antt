@@ -8,7 +8,7 @@ use Rattle.neph_base.specs.declared.sizes.TheConstants.{PAGE_BYTES}
 use Rattle.neph_model.specs.declared.own.Own.{Own}
 use Rattle.neph_model.specs.declared.memory.Mapping.{Mapping}
 use Rattle.neph_model.specs.declared.told.Told.{Told}
-use Rattle.neph_model.specs.Lent.{lent}
+use Rattle.neph_model.specs.Lent.{PageBack, lent, nothing_lent, with_page_back}
 use Rattle.neph_model.specs.Machine.{Shared}
 use Rattle.neph_model.specs.Step.{locked, shared_line, shared_commit}
 use Rattle.neph_pool.specs.World.{World}
@@ -27,12 +27,13 @@ pub record MeetsAway {Pool Seat : Type 0} (W : World Pool Seat) (p : Pool) (d : 
   pub maps : domain_mapping W p d (addr / PAGE_BYTES) ≡ Some to
   pub away : frame_at d.own.map.pages to.pfn ≡ None
 
--- the hypervisor may be asked to do the command: it isn't an `exit`, and a read is one of a page
--- that isn't the domain's own
+-- the hypervisor may be asked to do the command: it isn't an `exit`, a read is one of a page that
+-- isn't the domain's own, and no page comes home by it
 abbrev pub MayTrap : {Pool Seat : Type 0} → World Pool Seat → Pool → DomLocal Pool Seat → Command
     → Type 0
 MayTrap W p d (command.R addr len) = MeetsAway W p d addr
 MayTrap W p d command.Exit = ⊥
+MayTrap W p d (command.Ungrant r) = ⊥
 MayTrap W p d _ = ⊤
 
 -- from the memory d in the pool p to the memory e in the pool q
@@ -64,6 +65,18 @@ module _ {Pool Seat : Type 0} (W : World Pool Seat) (p : Pool) (d : DomLocal Poo
     pub new : Shared
     pub row : (o : Own) → IsMemoryOf W p d o.pages o.vmap o.leaves
         → shared_line old d.id (lent o c) told c ≡ locked new r
+
+  -- The domain's call to take the entry of this reference away has this reply: it is the row of the
+  -- definitions on some shared half. A page that it gives back is the domain's own, and all else of
+  -- its memory is as it was.
+  pub record IsUngranted (r : ℕ) (y : Reply) : Type 0 where
+    pub old : Shared
+    pub new : Shared
+    pub back : Option PageBack
+    pub row : (told : Told) → shared_line old d.id nothing_lent told (command.Ungrant r)
+        ≡ record { shared = new; reply = y; back = back }
+    pub means : (o : Own) → IsMemoryOf W p d o.pages o.vmap o.leaves
+        → let n = with_page_back o back in IsMemoryOf W q e n.pages n.vmap n.leaves
 
   -- the fork of a clone that has begun, if any, is in hand, and the reply tells its child
   abbrev pub IsInHand : Option (Fork Pool Seat) → Reply → Type 0

@@ -7,9 +7,9 @@ ghost use Rattle.neph_memory.specs.Domains.{IsStanding, IsUnchanged};
 ghost use Rattle.neph_local.specs.Copies.{IsSameFork};
 ghost use Rattle.neph_local.specs.Forks.{IsForkInHand, NoPageLeft};
 ghost use Rattle.neph_hyper.specs.Calls.{Calls};
-ghost use Rattle.neph_hyper.specs.Guests.{GoesOn, MayTrap, IsAnswered, IsCommitted, TakesSpare};
+ghost use Rattle.neph_hyper.specs.Guests.{GoesOn, MayTrap, IsAnswered, IsUngranted, IsCommitted, TakesSpare};
 
-use neph_base::{Command, DomId, NoMemory, Reply};
+use neph_base::{Command, DomId, GrantRef, NoMemory, Reply};
 use neph_local::Fork;
 use neph_memory::DomLocal;
 use neph_pool::FramePool;
@@ -28,7 +28,7 @@ pub trait Hyper<P: FramePool> {
         ensures { calls.Pauses self.now id result };
 
     /// Does a command of a domain that it can't do by itself, or begins its clone and puts the
-    /// fork into `begun`. Its `exit` isn't one of them. After `NoMemory`, which only a `clone`
+    /// fork into `begun`. Its `exit` and its `ungrant` aren't among them. After `NoMemory`, which only a `clone`
     /// gives, nothing has changed for it.
     fn trap(
         &mut self,
@@ -50,6 +50,16 @@ pub trait Hyper<P: FramePool> {
         ensures unbegun { OnErr result (begun.new ≡ None) }
         ensures trapped { calls.Trapped pool.old self.old d.old command.now
             pool.new self.new d.new begun.new result };
+
+    /// Takes the entry of a reference away from the grants of a domain. A page that no other entry
+    /// names is the domain's own again. Takes no memory.
+    fn ungrant(&mut self, pool: &mut P, d: &mut DomLocal<P>, reference: GrantRef) -> Reply
+        requires serves { calls.Serves pool.old self.old d.old }
+        requires stands { IsStanding P.world pool.old d.old }
+        ensures stands { IsStanding P.world pool.new d.new }
+        ensures answer { IsUngranted P.world pool.old d.old pool.new d.new reference result }
+        ensures ungranted { calls.Ungranted pool.old self.old d.old reference
+            pool.new self.new d.new result };
 
     /// Gives a free frame to a domain that has no spare, as its spare. False where no frame is
     /// free: the domain has no spare then. Takes no memory.

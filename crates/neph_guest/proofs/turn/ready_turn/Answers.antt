@@ -63,8 +63,8 @@ returns-in-Ok-LacksFrame g c =
       },
     ))
 
-pub trap_turn-requires : goal.trap_turn-requires
-trap_turn-requires g c =
+pub ask_turn-requires : goal.ask_turn-requires
+ask_turn-requires g c =
     let W = g.P.FramePool.world in
     let p = c.args.pool.now in
     let l = c.args.live.now in
@@ -91,6 +91,6 @@ returns-in-Ok-Asks g c =
         left = c.try_line.new.live;
         turn = turn.Asks;
         tried = subst (λ (t : LocalTurn). HasTried g.P.FramePool.world c.args.pool.now c.args.live.now c.try_line.new.pool c.try_line.new.live c.args.program.now c.args.command.now t) c.in-Ok-Asks.field-0-is c.in-Ok-Asks.ensures;
-        follows = c.trap_turn.ensures;
+        follows = c.ask_turn.ensures;
       },
     ))
