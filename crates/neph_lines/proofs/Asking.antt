@@ -50,6 +50,7 @@ asked_move s p free bs o b (command.JFail label) far e = refl
 asked_move s p free bs o b command.Exit far e = refl
 asked_move s p free bs o b command.Free far e = refl
 asked_move s p free bs o b command.Clone far e = absurd (far refl)
+asked_move s p free bs o b (command.Ungrant r) far e = refl
 asked_move s p free bs o b (command.Gmap granter r) far e = refl
 asked_move s p free bs o b (command.Gunmap h) far e = refl
 asked_move s p free bs o b (command.Hr h at len) far e = refl

@@ -1,5 +1,5 @@
 -- The turn of a domain whose line the hypervisor does.
-use Rattle.std.proofs.Common.{◌≡◌, ◌≢◌, ◌⊎◌, inl, inr, ℕ, [], ◌∷◌, set, None, refl, sym, ap, subst, ◌∙◌, arith}
+use Rattle.std.proofs.Common.{◌≡◌, ◌≢◌, ◌⊎◌, inl, inr, ℕ, [], ◌∷◌, set, Option, None, refl, sym, ap, subst, ◌∙◌, arith}
 use Rattle.std.specs.Prelude.{is_some}
 use Rattle.std.proofs.lemmas.List.{get_or-set_same}
 use Rattle.neph_base.specs.declared.command.Command.{Command}
@@ -16,7 +16,7 @@ use Rattle.neph_model.specs.declared.book.Spends.TheVariants.{Nothing}
 use Rattle.neph_model.specs.declared.told.Told.{Told}
 use Rattle.neph_model.specs.Machine.{Shared, Machine as Plain, no_own, program_of}
 use Rattle.neph_model.specs.Own.{local_step}
-use Rattle.neph_model.specs.Lent.{lent, own_behind}
+use Rattle.neph_model.specs.Lent.{PageBack, lent, own_behind}
 use Rattle.neph_model.specs.Step.{Outcome, Locked, locked, shared_line, step, step_by, child_made, bear, own_after}
 use Rattle.neph_model.specs.Books.{State}
 use Rattle.neph_model.specs.Turns.{noting, book_after, books_after, line_turn}
@@ -50,10 +50,10 @@ use Rattle.neph_lines.proofs.ReadyLines.{at_line, its, quiet, no_hand}
 use Rattle.neph_lines.proofs.Doing.{goes_book, goes_more}
 
 -- a line under the lock that is no exit and no commit gives its domain this own half
-called_step : (s : Script) (st : State) (id : ℕ) (told : Told) (sh : Shared) (r : Reply) → local_step s (program_of (part_at st id).life) (part_at st id).own told (command_of s (part_at st id)) ≡ None
-    → shared_line st.machine.shared id (lent (part_at st id).own (command_of s (part_at st id))) told (command_of s (part_at st id)) ≡ locked sh r
-    → step s st.machine (entry.Line id (part_at st id).own.line) told ≡ record { machine = record { own = set st.machine.own id (own_behind (part_at st id).own (command_of s (part_at st id)) r None); shared = sh }; reply = r }
-called_step s st id told sh r alone row =
+pub called_step : (s : Script) (st : State) (id : ℕ) (told : Told) (sh : Shared) (r : Reply) (back : Option PageBack) → local_step s (program_of (part_at st id).life) (part_at st id).own told (command_of s (part_at st id)) ≡ None
+    → shared_line st.machine.shared id (lent (part_at st id).own (command_of s (part_at st id))) told (command_of s (part_at st id)) ≡ record { shared = sh; reply = r; back = back }
+    → step s st.machine (entry.Line id (part_at st id).own.line) told ≡ record { machine = record { own = set st.machine.own id (own_behind (part_at st id).own (command_of s (part_at st id)) r back); shared = sh }; reply = r }
+called_step s st id told sh r back alone row =
     let x = part_at st id in
     let e = entry.Line id x.own.line in
     let behind : Locked → Outcome = λ (d : Locked). record { machine = record { own = set (bear st.machine.own id x.own (child_made e d.reply)) id (own_after s (program_of x.life) x.own e d.reply d.back); shared = d.shared }; reply = d.reply } in
@@ -64,11 +64,11 @@ goes_kind m id told out on (inl g) = g
 goes_kind m id told out on (inr (inl e)) = absurd (subst GoesOn e.reply on)
 goes_kind m id told out on (inr (inr b)) = absurd (subst GoesOn b.reply on)
 
-goes_line : {A : Type 0} (m : Plain) (id : ℕ) (told : Told) (out : Outcome) → GoesOn out.reply → Ends m id out ⊎ (A × Kind m id told out) → Goes m id out
+pub goes_line : {A : Type 0} (m : Plain) (id : ℕ) (told : Told) (out : Outcome) → GoesOn out.reply → Ends m id out ⊎ (A × Kind m id told out) → Goes m id out
 goes_line m id told out on (inl e) = absurd (subst GoesOn e.reply on)
 goes_line m id told out on (inr h) = goes_kind m id told out on h.1
 
-stays_ready : (stage : At) (r : Reply) → GoesOn r → stage_behind stage r ≡ stage
+pub stays_ready : (stage : At) (r : Reply) → GoesOn r → stage_behind stage r ≡ stage
 stays_ready stage (reply.Begun child) on = absurd on
 stays_ready stage _ on = refl
 
@@ -134,7 +134,7 @@ module _ {Pool Seat : Type 0} (W : World Pool Seat) (old : Machine Pool Seat) (s
           let sh = shared_in W new.pool new.hv in
           let c_is = its W old st reached stands id l here c ready in
           let plain : shared_line st.machine.shared id (lent o c) told c ≡ locked sh r = subst (λ (v : Shared). shared_line v id (lent o c) told c ≡ locked sh r) (sym stands.shared) row in
-          let did = called_step old.script st id told sh r (subst (λ (v : Command). local_step old.script (program_of part.life) o told v ≡ None) (sym c_is) alone) (subst (λ (v : Command). shared_line st.machine.shared id (lent o v) told v ≡ locked sh r) (sym c_is) plain) in
+          let did = called_step old.script st id told sh r None (subst (λ (v : Command). local_step old.script (program_of part.life) o told v ≡ None) (sym c_is) alone) (subst (λ (v : Command). shared_line st.machine.shared id (lent o v) told v ≡ locked sh r) (sym c_is) plain) in
           let no_exit : x ≢ command.Exit = λ e. far (sym c_is ∙ e) in
           let no_clone : x ≢ command.Clone = λ e. off (sym c_is ∙ e) in
           let n = own_behind o x r None in

@@ -126,6 +126,7 @@ module _ {Pool Seat : Type 0} (W : World Pool Seat) (old : Machine Pool Seat) (s
     did_spent command.Exit c_is n r step look after held = absurd (cc)
     did_spent command.Free c_is n r step look after held = absurd (cc)
     did_spent command.Clone c_is n r step look after held = absurd (cc)
+    did_spent (command.Ungrant ref) c_is n r step look after held = absurd (cc)
     did_spent (command.Gmap granter ref) c_is n r step look after held = absurd (cc)
     did_spent (command.Gunmap h) c_is n r step look after held = absurd (cc)
     did_spent (command.Hr h at len) c_is n r step look after held = absurd (cc)

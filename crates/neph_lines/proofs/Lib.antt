@@ -13,4 +13,5 @@ pub mod Mapping
 pub mod Doing
 pub mod Asking
 pub mod Called
+pub mod Regained
 pub mod Midway

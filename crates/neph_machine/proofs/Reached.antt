@@ -3,20 +3,12 @@ use Rattle.std.proofs.Common.{◌≡◌, ◌≢◌, ℕ, ◌%◌, ◌<◌, Bool,
 use Rattle.std.specs.Option.{is_some}
 use Rattle.std.proofs.lemmas.Bool.{eq-eqb}
 use Rattle.std.proofs.lemmas.List.{set-get_or}
-use Rattle.neph_base.specs.declared.command.Command.{Command}
 use Rattle.neph_base.specs.declared.command.Command.TheVariants as command
-use Rattle.neph_base.specs.declared.command.Mode.{Mode}
-use Rattle.neph_base.specs.declared.command.Mode.TheVariants.{Ro, Rw}
 use Rattle.neph_base.specs.declared.reply.Actor.{Actor}
 use Rattle.neph_base.specs.declared.reply.Actor.TheVariants as actor
 use Rattle.neph_base.specs.declared.reply.Entry.TheVariants.{Line, Commit}
-use Rattle.neph_base.specs.declared.reply.Reply.TheVariants as reply
-use Rattle.neph_base.specs.declared.reply.Refusal.{Refusal}
-use Rattle.neph_base.specs.declared.reply.Refusal.TheVariants.{NoFrame, ReadOnly}
 use Rattle.neph_model.specs.declared.own.Own.{Own}
 use Rattle.neph_model.specs.declared.life.Cloned.{Cloned}
-use Rattle.neph_model.specs.declared.life.Guest.{Guest}
-use Rattle.neph_model.specs.declared.memory.Mapping.{Mapping}
 use Rattle.neph_model.specs.declared.script.Script.{Script}
 use Rattle.neph_model.specs.declared.told.Told.{Told}
 use Rattle.neph_model.specs.declared.told.Told.TheVariants.{Enough}
@@ -26,20 +18,18 @@ use Rattle.neph_model.specs.declared.book.Move.{Move}
 use Rattle.neph_model.specs.declared.book.Move.TheVariants.{Rests, StepsPage, Commits, Copies, TakesSpare, Does}
 use Rattle.neph_model.specs.WellFormed.{IsWellFormed, FitsPage}
 use Rattle.neph_model.specs.Programs.{command_at}
-use Rattle.neph_model.specs.Machine.{Shared, no_own, own_at, life_at, guest_at, exposed_at, is_live, program_run, program_of}
-use Rattle.neph_model.specs.Own.{local_step}
-use Rattle.neph_model.specs.Lent.{Lent, PageBack, lent, own_behind}
+use Rattle.neph_model.specs.Machine.{no_own, own_at, guest_at, is_live, program_of}
 use Rattle.neph_model.specs.Births.{parent_own, join}
-use Rattle.neph_model.specs.Step.{Outcome, locked, call_effect, shared_line, shared_commit, child_made, bear, step, step_by, is_due, is_paused}
-use Rattle.neph_model.specs.Trap.{trap, CallResult, answers, with_exposed_bytes, is_exposed, w_call, clone_call, clone_refusal, need, is_blocked}
+use Rattle.neph_model.specs.Step.{Outcome, shared_commit, child_made, bear, step, is_paused}
+use Rattle.neph_model.specs.Trap.{is_blocked}
 use Rattle.neph_model.specs.Books.{State, free, start_state}
 use Rattle.neph_model.specs.Turns.{nothing, next_command, next_move, move_turn, domain_turn, turn}
 use Rattle.neph_laws.proofs.Apart.{stays_apart}
+use Rattle.neph_laws.proofs.Granted.{grants_stay}
 use Rattle.neph_flat.specs.Sound as flat
 use Rattle.neph_flat.proofs.OwnKeeps.{runs_line}
-use Rattle.neph_flat.proofs.MachineKeeps.{sound_local, sound_called, sound_commit, sound_join, line_due_is}
+use Rattle.neph_flat.proofs.MachineKeeps.{StaysLawful, line_step, sound_commit, sound_join, line_due_is}
 use Rattle.neph_flat.proofs.StartSound.{sound_start}
-use Rattle.neph_laws.proofs.HandleRows.{IsOfHandles, handle_row}
 use Rattle.neph_runs.specs.Orderly.{ForksWell, IsOrderlyAt, seat as part_at}
 use Rattle.neph_runs.proofs.Falls.{live_within}
 use Rattle.neph_runs.proofs.Turning.{IsFresh, forked, joins}
@@ -70,45 +60,9 @@ first_child id next begun (Forking n) h child left is =
     head : {a b : ℕ} {xs ys : List ℕ} → a ∷ xs ≡ b ∷ ys → a ≡ b
     head e = cc
 
--- no line gives a page back
-w_back : (sh : Shared) (id at : ℕ) (bytes : List ℕ) (met : Option Mapping) → (call_effect sh (w_call sh id at bytes met)).back ≡ None
-w_back sh id at bytes None = refl
-w_back sh id at bytes (Some to) = either (is_exposed sh.pages id to.pfn) to.mode where
-  by : Mode → CallResult
-  by Ro = Err ReadOnly
-  by Rw = answers (record sh { pages = with_exposed_bytes sh.pages id to.pfn at bytes }) reply.Done
-
-  go : (mode : Mode) → (call_effect sh (by mode)).back ≡ None
-  go Ro = refl
-  go Rw = refl
-
-  either : (b : Bool) (mode : Mode) → (call_effect sh (cond b (by mode) (Err NoFrame))).back ≡ None
-  either true mode = go mode
-  either false mode = refl
-
-clone_back : (sh : Shared) (id : ℕ) (g : Guest) (why : Option Refusal) → (call_effect sh (clone_call sh id g why)).back ≡ None
-clone_back sh id g (Some why) = refl
-clone_back sh id g None = refl
-
-handles_back : (sh : Shared) (id : ℕ) (l : Lent) (told : Told) (c : Command) → IsOfHandles c → (call_effect sh (trap sh id (guest_at id sh.tables) l told c)).back ≡ None
-handles_back sh id l told c is =
-    handle_row sh id (guest_at id sh.tables) (λ r. (call_effect sh r).back ≡ None) (λ why plain. refl) (λ bytes. refl) (λ m h. refl) (λ m. refl) (λ granter pfn at bytes has. refl) l told c is
-
-line_back : (sh : Shared) (id : ℕ) (l : Lent) (told : Told) (c : Command) → (shared_line sh id l told c).back ≡ None
-line_back sh id l told (command.W addr bytes) = w_back sh id (addr % 4096) bytes l.met
-line_back sh id l told (command.R addr len) = refl
-line_back sh id l told (command.Map vpn pfn mode) = refl
-line_back sh id l told (command.Unmap vpn) = refl
-line_back sh id l told (command.Jump label) = refl
-line_back sh id l told (command.JChild label) = refl
-line_back sh id l told (command.JFail label) = refl
-line_back sh id l told command.Exit = refl
-line_back sh id l told command.Free = refl
-line_back sh id l told (command.Gmap granter r) = handles_back sh id l told (command.Gmap granter r) tt
-line_back sh id l told (command.Gunmap h) = handles_back sh id l told (command.Gunmap h) tt
-line_back sh id l told (command.Hr h at n) = handles_back sh id l told (command.Hr h at n) tt
-line_back sh id l told (command.Hw h at bytes) = handles_back sh id l told (command.Hw h at bytes) tt
-line_back sh id l told command.Clone = clone_back sh id (guest_at id sh.tables) (clone_refusal sh.tables (guest_at id sh.tables) (life_at id sh.lives) (need (exposed_at id sh.pages) l.leaves) told)
+-- what an entry leaves
+lawful : StaysLawful
+lawful = (stays_apart, grants_stay)
 
 -- a turn of a live domain leaves the plain machine sound
 module _ (s : Script) (well : IsWellFormed s) (st : State) (id : ℕ) (sound : rooms.IsSound s st) (machine : flat.IsSound s st.machine) (live : is_some (part_at st id).life ≡ true) where
@@ -116,23 +70,8 @@ module _ (s : Script) (well : IsWellFormed s) (st : State) (id : ℕ) (sound : r
   line_machine told runs =
       let m = st.machine in
       let line = (own_at id m.own).line in
-      let e = Line id line in
-      let p = program_run id m.shared.lives in
-      let o = own_at id m.own in
-      let c = command_at s p line in
-      let did = shared_line m.shared id (lent o c) told c in
       let places = sound.orderly.places in
-      let low = live_within st id sound.orderly live in
-      let due : is_due s m e ≡ true = line_due_is s m id line true false true live runs (eq-eqb line line refl) in
-      elim (local_step s p o told c) as (λ x. local_step s p o told c ≡ x → flat.IsSound s (step_by s m e told x).machine) [
-        | Some mine ↦ λ is. sound_local stays_apart s m id line told mine.0 mine.1 machine due low is (ap (step_by s m e told) is)
-        | None ↦ λ is.
-            let none : did.back ≡ None = line_back m.shared id (lent o c) told c in
-            let plain : did ≡ locked did.shared did.reply = ap (λ (b : Option PageBack). record { shared = did.shared; reply = did.reply; back = b }) none in
-            let out = λ (b : Option PageBack). let x : Outcome = record { machine = record { own = set m.own id (own_behind o c did.reply b); shared = did.shared }; reply = did.reply } in x in
-            let goes : step s m e told ≡ out None = ap (step_by s m e told) is ∙ ap out none in
-            subst (λ (b : Option PageBack). flat.IsSound s (out b).machine) (sym none) (sound_called stays_apart s m id line told did.shared did.reply machine due low places.lives places.guests plain goes)
-      ] refl
+      line_step lawful s m id line told machine (line_due_is s m id line true false true live runs (eq-eqb line line refl)) (live_within st id sound.orderly live) places.lives places.guests
 
   commit_machine : (part_at st id).book.stage ≡ Forking 0 → flat.IsSound s (step s st.machine (Commit id (own_at id st.machine.own).line) Enough).machine
   commit_machine e =
@@ -149,7 +88,7 @@ module _ (s : Script) (well : IsWellFormed s) (st : State) (id : ℕ) (sound : r
       let did = shared_commit m.shared id xs in
       let x : Outcome = record { machine = record { own = set (bear m.own id o (child_made (Commit id line) did.reply)) id (parent_own o); shared = did.shared }; reply = did.reply } in x in
       let goes : step s m (Commit id line) Enough ≡ out (child ∷ []) = ap out begun in
-      subst (λ (x : Outcome). flat.IsSound s x.machine) (sym goes) (sound_commit stays_apart s m id line child [] Enough machine live begun fork.1.1 below places.lives places.guests goes)
+      subst (λ (x : Outcome). flat.IsSound s x.machine) (sym goes) (sound_commit lawful s m id line child [] Enough machine live begun fork.1.1 below places.lives places.guests goes)
 
   move_machine : (mv : Move) (blocked : Bool) → IsFresh (part_at st id).book mv → Reasons (free s st) st.books (part_at st id).own (part_at st id).book (seat_command s (part_at st id)) (is_paused id st.machine.shared) blocked mv → flat.IsSound s (move_turn s st id mv).state.machine
   move_machine Rests blocked fresh why = machine

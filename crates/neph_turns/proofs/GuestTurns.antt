@@ -58,7 +58,7 @@ use Rattle.neph_turns.proofs.Resting.{paused_rests}
 use Rattle.neph_turns.proofs.TookBy.{TookBy, TookByOrLacked, IsTurn, is_turn, from_mid}
 use Rattle.neph_turns.proofs.Needs.{line_command, program_is, its_command, ready_at, runs}
 use Rattle.neph_turns.proofs.SpareTurns.{spared_took}
-use Rattle.neph_turns.proofs.TrapTurns.{trapped_took}
+use Rattle.neph_turns.proofs.UngrantTurns.{asked_took}
 
 -- the machine in which the domain of an id is this, with its pool and hypervisor
 abbrev pub behind : {Pool Seat : Type 0} → Machine Pool Seat → ℕ → Pool → Hv Pool Seat → Live Pool Seat → Machine Pool Seat
@@ -172,7 +172,7 @@ module _ {Pool Seat : Type 0} (W : World Pool Seat) (old : Machine Pool Seat) (s
             let x = trial h.mid h.left local.Asks d in
             is_turn W old (behind old id q k m) st id l.guest.line done b t
             (from_mid W old (behind old id h.mid old.hv h.left) (behind old id q k m) refl d.alone.shares st id l.guest.line done b h.left.guest.line (line_same x tt) t
-            (trapped_took W (behind old id h.mid old.hv h.left) st reached (mid_stands x tt) id h.left (there x tt) survey well (behind old id q k m) refl m spots c (mid_ready x tt) far (alone x) b t f))
+            (asked_took W (behind old id h.mid old.hv h.left) st reached (mid_stands x tt) id h.left (there x tt) survey well (behind old id q k m) refl m spots c (mid_ready x tt) far (alone x) b t f))
 
       -- no memory was left for its `map`
       lacked : (q : Pool) (k : Hv Pool Seat) (m : Live Pool Seat) → HasLacked W old.pool l q m c → k ≡ old.hv → Lacked W old (behind old id q k m) st

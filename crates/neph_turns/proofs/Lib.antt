@@ -11,4 +11,5 @@ pub mod TookBy
 pub mod Needs
 pub mod SpareTurns
 pub mod TrapTurns
+pub mod UngrantTurns
 pub mod GuestTurns

@@ -1,13 +1,15 @@
 -- What the turn of a guest needs, where its machine stands for a state.
-use Rattle.std.proofs.Common.{◌≡◌, ◌≢◌, ℕ, ◌<◌, true, false, List, length, get_or, Option, Some, None, refl, sym, ap, subst, ◌∙◌, arith}
+use Rattle.std.proofs.Common.{◌≡◌, ◌≢◌, ℕ, zero, suc, ◌<◌, Bool, true, false, List, [], ◌∷◌, length, get_or, Option, Some, None, refl, sym, ap, subst, ◌∙◌, arith}
 use Rattle.std.specs.Prelude.{is_some, nat_lt, not, slice_get}
+use Rattle.std.specs.FinMap as fm
 use Rattle.std.proofs.lemmas.Bool.{ltb-false}
 use Rattle.std.proofs.lemmas.Option.{slice_get_read, slice_get_past}
 use Rattle.neph_base.specs.declared.command.Command.{Command}
 use Rattle.neph_base.specs.declared.command.Command.TheVariants.{Exit}
 use Rattle.neph_model.specs.declared.script.Program.{Program}
-use Rattle.neph_model.specs.Machine.{Shared, is_live, program_of, program_run}
+use Rattle.neph_model.specs.Machine.{Shared, guest_at, is_live, program_of, program_run}
 use Rattle.neph_model.specs.Programs.{command_in, commands_of, program_at}
+use Rattle.neph_model.specs.Trap.{is_exposed}
 use Rattle.neph_model.specs.WellFormed.{FitsPage}
 use Rattle.neph_model.specs.Books.{State}
 use Rattle.neph_model.specs.Step.{is_paused}
@@ -18,7 +20,12 @@ use Rattle.neph_guest.specs.declared.live.Stage.{Stage}
 use Rattle.neph_guest.specs.declared.live.Stage.TheVariants.{Ready, Copying, Forking}
 use Rattle.neph_guest.specs.Turns.{IsLineInHand}
 use Rattle.neph_rows.specs.Records.{shared_of}
-use Rattle.neph_hv.specs.Serving.{IsServed, HasAway}
+use Rattle.neph_gmap.specs.declared.page.Page.{Page}
+use Rattle.neph_gmap.specs.declared.page.Page.TheVariants.{Exposed, Local}
+use Rattle.neph_memory.specs.Pages.{frame_at}
+use Rattle.neph_heap.specs.Lists.{exposed_of, frame_in}
+use Rattle.neph_heap.proofs.Maps.{shown_is}
+use Rattle.neph_hv.specs.Serving.{IsServed, HasAway, HasGranted}
 use Rattle.neph_hv.specs.Calls.{IsPausing}
 use Rattle.neph_machine.specs.declared.place.Place.TheVariants.{Domain}
 use Rattle.neph_machine.specs.declared.machine.Machine.{Machine}
@@ -39,6 +46,30 @@ pub absent_program : (xs ys : List Program) (n m : ℕ) → xs ≡ ys → n ≡ 
 absent_program xs ys n m same e past = ap (slice_get ys) (sym e) ∙ ap (λ (v : List Program). slice_get v n) (sym same) ∙ slice_get_past xs n (ltb-false n (length xs) (sym past))
 
 module _ {Pool Seat : Type 0} (W : World Pool Seat) (old : Machine Pool Seat) (st : State) (reached : IsReached old.script st) (stands : StandsFor W old st) (id : ℕ) (l : Live Pool Seat) (here : place_at id old.places.items ≡ Domain l) where
+  -- a page that isn't the domain's own is away
+  is_away : (pages : List Page) (pfn : ℕ) → pfn < length pages → is_some (frame_at pages pfn) ≡ false → slice_get pages pfn ≡ Some Exposed
+  unfolding frame_at
+  is_away [] pfn lt e = absurd (omega arith)
+  is_away (Exposed ∷ xs) zero lt e = refl
+  is_away (Local f ∷ xs) zero lt e = absurd cc
+  is_away (x ∷ xs) (suc pfn) lt e = is_away xs pfn (omega (arith, lt)) e
+
+  -- so is each page that it has granted
+  granted : HasGranted old.hv.heap.stock (guest_at id old.hv.registry.tables).grants id l.local.own.map.pages
+  granted r e at =
+      let is = was W old st reached stands id l here in
+      let halves = (reached.sound.seats id is.live).halves in
+      let there : fm.get (part_at st id).guest.grants r ≡ Some e = ap (λ (sh : Shared). fm.get (guest_at id sh.tables).grants r) stands.shared ∙ at in
+      let shown : is_exposed st.machine.shared.pages id e.pfn ≡ true = halves.named r e there in
+      let listed : is_some (frame_in e.pfn (exposed_of id old.hv.heap.stock)) ≡ true =
+      sym (shown_is (W.entries old.pool old.hv.heap.seat) old.hv.heap.stock.exposed id e.pfn) ∙ sym (ap (λ (sh : Shared). is_exposed sh.pages id e.pfn) stands.shared) ∙ shown in
+      let inside : e.pfn < length l.local.own.map.pages = is.exposes.within e.pfn listed in
+      record { exposed = listed; away = is_away l.local.own.map.pages e.pfn inside (flip (is_some (frame_at l.local.own.map.pages e.pfn)) (sym listed ∙ is.exposes.split e.pfn inside)) }
+    where
+      flip : (b : Bool) → true ≡ not b → b ≡ false
+      flip true e = absurd cc
+      flip false e = refl
+
   -- the hypervisor serves it
   pub serves : IsServed W old.pool old.hv l.local
   serves =
@@ -46,6 +77,7 @@ module _ {Pool Seat : Type 0} (W : World Pool Seat) (old : Machine Pool Seat) (s
         hv = stands.heap;
         apart = apart_heap W old st reached stands id l here;
         away = subst (λ (i : ℕ). HasAway old.hv.heap.stock i l.local.own.map.pages) (sym is.id_is) (λ pfn lt none. is.exposes.split pfn lt ∙ ap (λ (o : Option ℕ). not (is_some o)) none);
+        granted = subst (λ (i : ℕ). HasGranted old.hv.heap.stock (guest_at i old.hv.registry.tables).grants i l.local.own.map.pages) (sym is.id_is) granted;
         cap = stands.cap;
         name = next_named W old st reached stands;
         none = next_none W old st reached stands;
