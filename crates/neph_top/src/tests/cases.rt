@@ -212,7 +212,7 @@ end ended
 ",
 };
 
-// Commands of handles, where none can be had: the first three entries let domain 0 in.
+// Commands of handles, where none can be had, and of entries: the first three let domain 0 in.
 const HANDLES: Case = Case {
     script: "nephele 1
 frames 64
@@ -224,6 +224,8 @@ gmap 63 0
 gunmap 63
 hr 0 4095 1
 hw 0 0 07
+ungrant 3
+ungrant 0
 jfail past
 exit
 label past
@@ -236,7 +238,7 @@ exit
 end
 domain p 8 1 open
 domain q 8 0 open
-turns 1 1 1 1 1 1 1 1 2
+turns 1 1 1 1 1 1 1 1 1 1 2
 ",
     text: "transcript 1
 1:0 gmap 2 0 = no notyours
@@ -246,15 +248,17 @@ turns 1 1 1 1 1 1 1 1 2
 1:4 gunmap 63 = no nohandle
 1:5 hr 0 4095 1 = no nohandle
 1:6 hw 0 0 07 = no nohandle
-1:7 jfail past = go
+1:7 ungrant 3 = no nogrant
+1:8 ungrant 0 = no busy
+1:9 jfail past = go
 2:0 exit = ended
-1:9 clone = begin 3
-1:9 commit = 3
+1:11 clone = begin 3
+1:11 commit = 3
 daemon = 3
-1:10 gmap 2 0 = no gone
-3:10 gmap 2 0 = no gone
-1:11 exit = ended
-3:11 exit = ended
+1:12 gmap 2 0 = no gone
+3:12 gmap 2 0 = no gone
+1:13 exit = ended
+3:13 exit = ended
 frames 64 colours 0 tables 0 spares 0 aside 0 free 64
 end ended
 ",

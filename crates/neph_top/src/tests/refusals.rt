@@ -21,7 +21,7 @@ const TURNED: &str = "nephele 1\nframes 16\nprogram p\nend\ndomain p 8 0 open\nt
 
 // A place, a line that can't stand there, and what is written: each kind at each place, but for
 // `many`.
-static REFUSED: [(&str, &str, &str); 89] = [
+static REFUSED: [(&str, &str, &str); 90] = [
     // A byte that isn't printed, also on a skipped line.
     (TOP, "nephele\t1", "script 1 bytes\n"),
     (HEADED, "\tframes 16", "script 2 bytes\n"),
@@ -76,6 +76,7 @@ static REFUSED: [(&str, &str, &str); 89] = [
     (INSIDE, "map 262144 4 ro", "script 4 number\n"),
     (INSIDE, "map 0 1024 ro", "script 4 number\n"),
     (INSIDE, "unmap x", "script 4 number\n"),
+    (INSIDE, "ungrant 64", "script 4 number\n"),
     (INSIDE, "gmap 64 0", "script 4 number\n"),
     (INSIDE, "gmap 1 64", "script 4 number\n"),
     (INSIDE, "gunmap 64", "script 4 number\n"),
